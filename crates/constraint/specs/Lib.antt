@@ -1,0 +1,4 @@
+-- constraint.rs: kinds, operators, targets and extras with their numbers; negation.
+pub mod Kind
+pub mod Cases
+pub mod Negation

@@ -1,0 +1,10 @@
+-- Whether two integers are equal. Assumes nothing.
+use mathlib.Core.Bool.{Bool, true, false}
+use lib.Dec.{eqb}
+use lib.IntN.{ℤ, pos, negsuc}
+
+unfoldable pub eqZ : ℤ → ℤ → Bool
+eqZ (pos a) (pos b) = eqb a b
+eqZ (pos a) (negsuc b) = false
+eqZ (negsuc a) (pos b) = false
+eqZ (negsuc a) (negsuc b) = eqb a b

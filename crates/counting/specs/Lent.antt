@@ -1,0 +1,9 @@
+-- What lies behind a reference as a call begins and as it ends. Assumes nothing.
+use denote.Ref.{RefT, now}
+use denote.Triple.Both.{Both}
+
+abbrev pub old : {A B : Type 0} → Both (RefT A) (RefT B) → A
+old x = now (x .entry)
+
+abbrev pub new : {A B : Type 0} → Both (RefT A) (RefT B) → B
+new x = now (x .exit)

@@ -1,0 +1,55 @@
+-- Laws of joins and tables. Assumes nothing.
+use Prim.Native.Nat.{ℕ, zero, suc, _+_, _*_, _<_, _≤_, zero-le}
+use mathlib.Core.Path.{_≡_, refl, sym, ap, _∙_}
+use mathlib.Core.List.{List, [], _∷_, _++_}
+use native.Mathlib.Nat.{suc-mul, le-of-eq}
+use native.Mathlib.Numerals.{add-one}
+use native.Mathlib.Omega.{arith}
+use lib.ListN.{length, getD, set, take, length-append, length-set, List·getD-append}
+use lib.Seq.{take-all, take-suc-set, getD-at}
+use Rattle.counting.specs.Fold.{foldTo, fold-none, fold-suc, fold-more, sumTo, joinTo, tableTo}
+use Rattle.counting.specs.Sums.{sum-le, sum-const}
+use Rattle.counting.specs.Tests.{eq-cases}
+
+module _ {ℓ} {A : Type ℓ} where
+  pub length-join : (n : ℕ) (f : ℕ → List A) → length (joinTo n f) ≡ sumTo n (λ k. length (f k))
+  unfolding foldTo
+  length-join zero f = refl
+  length-join (suc n) f = omega (arith, length-append (joinTo n f) (f n), length-join n f)
+
+  -- n lists of at most m elements each
+  pub length-join-most : (n m : ℕ) (f : ℕ → List A) → ((k : ℕ) → length (f k) ≤ m) → length (joinTo n f) ≤ n * m
+  length-join-most n m f h = omega (arith, length-join n f, sum-le n (λ k. length (f k)) (λ k. m) (λ k l. h k), sum-const n m)
+
+  pub length-table : (n : ℕ) (f : ℕ → A) → length (tableTo n f) ≡ n
+  length-table n f = omega (arith, length-join n (λ k. f k ∷ []), sum-const n 1)
+
+  pub table-more : (n : ℕ) (f : ℕ → A) → tableTo (n + 1) f ≡ tableTo n f ++ (f n ∷ [])
+  table-more n f = fold-more _++_ [] n (λ k. f k ∷ [])
+
+  -- what stands at k of a table
+  pub table-at : (n : ℕ) (f : ℕ → A) (d : A) (k : ℕ) → k < n → getD (tableTo n f) k d ≡ f k
+  table-at zero f d k l = absurd (omega arith)
+  table-at (suc n) f d k l = rw (fold-suc _++_ [] n (λ k. f k ∷ [])) (eq-cases k n
+      (λ e t. rw e (getD-at (tableTo n f) (f n) [] d n (length-table n f)))
+      (λ e t. let h : k < length (tableTo n f) = omega (arith, length-table n f) in
+      List·getD-append (tableTo n f) (f n ∷ []) d k h ∙ table-at n f d k (omega arith)))
+
+  -- an array of n elements that a loop fills from the front: the first i are f 0, f 1, ..
+  pub record Filled (f : ℕ → A) (n i : ℕ) (l : List A) : Type ℓ where
+    pub long : length l ≡ n
+    pub front : take i l ≡ tableTo i f
+
+  pub filled-none : (f : ℕ → A) (n : ℕ) (l : List A) → length l ≡ n → Filled f n 0 l
+  filled-none f n l e = record { long = e; front = sym (fold-none _++_ [] (λ k. f k ∷ [])) }
+
+  pub filled-more : {f : ℕ → A} {n i : ℕ} {l : List A} {x : A} → i < n → x ≡ f i → Filled f n i l → Filled f n (i + 1) (set l i x)
+  filled-more {f = f} {n = n} {i = i} {l = l} {x = x} h e p =
+      let b : i < length l = rw (p .long) h in
+      record {
+        long = length-set l i x ∙ p .long;
+        front = rw (table-more, add-one i, take-suc-set l i x b, p .front, e);
+      }
+
+  pub filled-all : {f : ℕ → A} {n i : ℕ} {l : List A} → i ≡ n → Filled f n i l → l ≡ tableTo n f
+  filled-all {n = n} {l = l} e p = sym (take-all n l (le-of-eq (p .long))) ∙ (rw e at (p .front))

@@ -1,0 +1,101 @@
+// Prints the rows of the sample day that the library can answer so far, each computed.
+use constraint::Constraint;
+use lines::say;
+use lines::say_constraint;
+use lines::say_number;
+use lines::say_ordering;
+use lines::say_score;
+use score::BestScore;
+use score::Score;
+
+mod lines;
+
+// The three scores, each of which is less than the next and the last less than the first.
+fn first() -> Score {
+    Score {
+        major: 1.0,
+        minor: 3.0,
+    }
+}
+
+fn second() -> Score {
+    Score {
+        major: 2.0,
+        minor: 1.0,
+    }
+}
+
+fn third() -> Score {
+    Score {
+        major: score::greedy_major(),
+        minor: 2.0,
+    }
+}
+
+fn row_of_zeros() {
+    let negative = Score {
+        major: 1.0,
+        minor: -0.0,
+    };
+    let positive = Score {
+        major: 1.0,
+        minor: 0.0,
+    };
+    say(b"minor -0.0 before +0.0 with equal majors: ");
+    say_ordering(negative.cmp(positive));
+    say(b"\n");
+}
+
+fn row_of_two(left: Score, right: Score) {
+    say_score(left);
+    say(b" < ");
+    say_score(right);
+    say(b": ");
+    say_ordering(left.cmp(right));
+    say(b"\n");
+}
+
+// In a cycle the best hangs on the order: the first is kept until a later one is less.
+fn row_of_best() {
+    let mut scores = [first(); 64];
+    scores[1] = second();
+    scores[2] = third();
+    say(b"best of ");
+    say_score(scores[0]);
+    say(b", ");
+    say_score(scores[1]);
+    say(b", ");
+    say_score(scores[2]);
+    say(b": ");
+    let best = score::best(scores, 3).best;
+    match best {
+        BestScore::None => say(b"none"),
+        BestScore::At(ranked) => {
+            say(b"position ");
+            say_number(ranked.position);
+            say(b", score ");
+            say_score(ranked.score);
+        }
+    }
+    say(b"\n");
+}
+
+fn rows_of_negation() {
+    let limit = Constraint::of(6, 0, 4, 2, 2, -2);
+    say(b"size limit Leq: ");
+    say_constraint(limit);
+    let answer = limit.negation();
+    say(b"its negation, number ");
+    say_number(answer.number as usize);
+    say(b": ");
+    say_constraint(answer.constraint);
+}
+
+fn main() {
+    row_of_zeros();
+    row_of_two(first(), second());
+    row_of_two(second(), third());
+    row_of_two(third(), first());
+    row_of_best();
+    rows_of_negation();
+}

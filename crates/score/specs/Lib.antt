@@ -1,0 +1,5 @@
+-- score.rs: IEEE 754's totalOrder, the order of scores, the best of a list, and worked examples.
+pub mod TotalOrder
+pub mod Order
+pub mod Best
+pub mod Sample

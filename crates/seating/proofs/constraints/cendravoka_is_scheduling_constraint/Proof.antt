@@ -1,0 +1,27 @@
+use mathlib.Core.Path.{_∙_, ap}
+use Rattle.constraint.specs.Kind.{isScheduling}
+use borrow.Author.Needs.{needs}
+use Rattle.seating.proofs.constraints.cendravoka_is_scheduling_constraint.Statement.{
+  statement,
+}
+use Rattle.seating.proofs.constraints.cendravoka_is_scheduling_constraint.Tie as tie
+use Rattle.seating.proofs.constraints.cendravoka_is_scheduling_constraint.Reads as reads
+use Rattle.seating.proofs.constraints.cendravoka_is_scheduling_constraint.Lts as lts
+use Rattle.constraint.proofs.ConstraintType.is_scheduling_constraint.Reads as is-scheduling-constraint-reads
+use Rattle.constraint.proofs.ConstraintType.of.Reads as of-reads
+
+-- src/constraints.rt:67:5
+of-requires : tie.Need-of-requires
+of-requires c κs = search needs
+
+-- src/constraints.rt:67:5
+is-scheduling-constraint-requires : tie.Need-is-scheduling-constraint-requires
+is-scheduling-constraint-requires c κs = search needs
+
+-- src/constraints.rt:63:1
+returns : tie.Need-returns
+returns c = c .is-scheduling-constraint .ensures ∙ ap isScheduling (c .before .of .ensures)
+
+pub cendravoka-is-scheduling-constraint-spec : {M : Type 1} → statement M
+cendravoka-is-scheduling-constraint-spec =
+    tie.close (tie.spec of-requires is-scheduling-constraint-requires returns)

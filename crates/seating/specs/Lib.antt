@@ -1,0 +1,3 @@
+-- What the exported entries give.
+pub mod Constraints
+pub mod Scores

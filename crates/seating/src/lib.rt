@@ -1,0 +1,3 @@
+// The exported C entries: numbers and slices in, numbers out. include/cendravoka.h declares them.
+pub mod constraints;
+pub mod scores;

@@ -1,0 +1,64 @@
+//! Answers of the original Rust in the form of the port's.
+use crate::bridge;
+use crate::constraint::Constraint;
+use crate::panics::caught;
+use port::{BestAnswer, NegationAnswer, Score};
+use std::cmp::Ordering;
+
+/// A major and a minor.
+pub type Pair = (f32, f32);
+
+/// `Constraint::negation`; where the Rust panics, 9 and zeros.
+pub fn negation(constraint: Constraint) -> NegationAnswer {
+    let negated = caught(|| bridge::constraint(constraint).negation());
+    let number = if negated.is_ok() { 0 } else { 9 };
+    let numbers = negated.map(bridge::numbers).unwrap_or_default();
+    NegationAnswer {
+        number,
+        kind: numbers.kind,
+        left: numbers.left,
+        target_case: numbers.target_case,
+        target: numbers.target,
+        extra_case: numbers.extra_case,
+        extra: numbers.extra,
+    }
+}
+
+/// `Score::cmp`: -1, 0 or 1.
+pub fn compare(left: Pair, right: Pair) -> i32 {
+    match oracle::calls::compare(left, right) {
+        Ordering::Less => -1,
+        Ordering::Equal => 0,
+        Ordering::Greater => 1,
+    }
+}
+
+/// The first of the list that no later one is less than, walking from the front
+/// with `Score::cmp`. The Rust has no such function: this is document 01's rule.
+pub fn best(scores: &[Pair]) -> BestAnswer {
+    let is_less = |place: usize, best: usize| compare(scores[place], scores[best]) < 0;
+    let keep = |best, place| if is_less(place, best) { place } else { best };
+    match (0..scores.len()).reduce(keep) {
+        None => refused_best(0),
+        Some(place) => BestAnswer {
+            number: 0,
+            found: 1,
+            position: place as u32,
+            score: score_bits(scores[place]),
+        },
+    }
+}
+
+/// A number and zeros. With 0 it is the best of an empty list.
+pub fn refused_best(number: u32) -> BestAnswer {
+    let score = Score { major: 0, minor: 0 };
+    BestAnswer { number, found: 0, position: 0, score }
+}
+
+/// Bit patterns as they cross the boundary: there is one NaN.
+pub fn score_bits((major, minor): Pair) -> Score {
+    let bits = |float: f32| {
+        if float.is_nan() { 0x7FC0_0000 } else { float.to_bits() }
+    };
+    Score { major: bits(major), minor: bits(minor) }
+}

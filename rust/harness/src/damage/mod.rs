@@ -1,0 +1,99 @@
+//! Damage: changes that make sound input such that a call must refuse it by a
+//! known number, and changes that must make no difference.
+mod days;
+mod lent;
+pub mod values;
+
+use crate::bridge;
+use crate::day::Day;
+use crate::plan::{Plan, random_plan};
+use crate::random::Random;
+use crate::reading::{Asked, Buffer, Handed};
+use crate::schedule::{Schedule, changed_schedule, random_chain};
+use crate::state::State;
+
+/// All that a call may be handed.
+#[derive(Debug, Clone)]
+pub struct Input {
+    pub day: Day,
+    pub buffers: Vec<(Buffer, usize)>,
+    pub asked: Vec<Asked>,
+    /// The state comes from a chain of schedules; this is the next one.
+    pub schedule: Schedule,
+    pub state: State,
+    pub plan: Plan,
+}
+
+impl Input {
+    /// Sound input around this day, with a plan for its schedule; nothing where
+    /// there are seats and no choice to sit in.
+    pub fn random(random: &mut Random, day: Day) -> Option<Self> {
+        let chain = random_chain(random, &day);
+        let problem = bridge::problem(&day);
+        let mut solver = problem.solver();
+        let states = chain.iter().map(|schedule| solver.prepare(&schedule[..day.choices]));
+        let last = states.last().expect("a chain has a first schedule");
+        let state = State::of(random, &day, &last);
+        let schedule = changed_schedule(random, &day, &chain[chain.len() - 1]);
+        let plan = random_plan(random, &day, &schedule)?;
+        let buffers = BUFFERS.map(|buffer| (buffer, buffer.named_length() + random.below(3)));
+        let asked = random_asked(random, &day);
+        Some(Self { day, buffers: buffers.to_vec(), asked, schedule, state, plan })
+    }
+
+    pub fn handed(&self) -> Handed<'_> {
+        Handed {
+            day: Some(&self.day),
+            scores: None,
+            preferences: Some(&self.day.preferences),
+            levels: Some(&self.day.levels),
+            powers: Some(&self.day.powers),
+            costs: Some(&self.day.costs),
+            buffers: &self.buffers,
+            asked: &self.asked,
+            schedule: Some(&self.schedule),
+            state: Some(&self.state),
+            plan: Some(&self.plan),
+        }
+    }
+}
+
+const BUFFERS: [Buffer; 9] = [
+    Buffer::Supplies,
+    Buffer::SlotLists,
+    Buffer::EdgeTable,
+    Buffer::EdgeValues,
+    Buffer::GroupEntries,
+    Buffer::GroupEnds,
+    Buffer::BlockedEntries,
+    Buffer::Plan,
+    Buffer::Roster,
+];
+
+fn random_asked(random: &mut Random, day: &Day) -> Vec<Asked> {
+    let mut asked = Vec::new();
+    if day.choosers > 0 {
+        asked.push(Asked::Chooser(random.below(day.choosers)));
+    }
+    if day.choices > 0 {
+        asked.push(Asked::Choice(random.below(day.choices)));
+    }
+    if day.slots > 0 {
+        asked.push(Asked::Slot(random.below(day.slots)));
+    }
+    asked
+}
+
+/// A kind of damage, and the number by which it must be refused; 0: it must
+/// make no difference.
+pub struct Damage {
+    pub name: &'static str,
+    pub number: u32,
+    /// Does the damage, or nothing where the input has no room for it.
+    pub apply: fn(&mut Random, &mut Input) -> Option<()>,
+}
+
+/// Every kind of damage.
+pub fn all() -> impl Iterator<Item = &'static Damage> {
+    days::DAMAGES.iter().chain(lent::DAMAGES)
+}

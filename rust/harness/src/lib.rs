@@ -1,0 +1,22 @@
+//! Runs the port beside the original Rust: the suites, the random days that
+//! they run on, and the recorded answers.
+#![forbid(unsafe_code)]
+
+pub mod answers;
+pub mod bridge;
+pub mod constraint;
+pub mod damage;
+pub mod day;
+pub mod features;
+pub mod options;
+pub mod panics;
+pub mod plan;
+pub mod random;
+pub mod reading;
+pub mod records;
+pub mod run;
+pub mod schedule;
+pub mod scores;
+pub mod search;
+pub mod state;
+pub mod suites;

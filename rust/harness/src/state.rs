@@ -1,0 +1,63 @@
+//! A schedule state in the form that is lent, and how the Rust's becomes one.
+use crate::day::{CHOICES, CHOOSERS, Day, SLOTS};
+use crate::random::Random;
+use crate::reading;
+use crate::schedule::Schedule;
+
+/// The named length of the slot lists.
+pub const LISTS: usize = SLOTS * CHOICES;
+
+/// Whatever lies past the day's choices, slots and choosers, and past the used
+/// front of a slot's list, may be anything.
+#[derive(Debug, Clone)]
+pub struct State {
+    pub schedule: Schedule,
+    /// A count for each of the 8 slots.
+    pub covered: Vec<u32>,
+    /// For chooser c and choice k at c × 32 + k.
+    pub blocks: Vec<bool>,
+    /// The list of slot s starts at 32 × s.
+    pub lists: Vec<u8>,
+}
+
+impl State {
+    /// The Rust's state of this day, with anything where nothing is read.
+    pub fn of(random: &mut Random, day: &Day, state: &oracle::State) -> Self {
+        let any = random.bits() as u8;
+        let junk = random.pick(&[0, 0xEE, any]);
+        let mut schedule = state.schedule.clone();
+        schedule.resize(CHOICES, (junk > 0).then_some(usize::from(junk)));
+        let mut covered = state.covered.clone();
+        covered.resize(SLOTS, u32::from(junk));
+        let mut lists = vec![junk; LISTS];
+        for (slot, list) in state.lists.iter().enumerate() {
+            for (place, &choice) in list.iter().enumerate() {
+                lists[slot * CHOICES + place] = choice as u8;
+            }
+        }
+        let mut blocks = vec![junk > 0; CHOOSERS * CHOICES];
+        for chooser in 0..day.choosers {
+            for choice in 0..day.choices {
+                blocks[chooser * CHOICES + choice] = is_blocked(day, state, chooser, choice);
+            }
+        }
+        Self { schedule, covered, blocks, lists }
+    }
+
+    /// The used front of a slot's list.
+    pub fn front(&self, day: &Day, slot: usize) -> &[u8] {
+        let own = self.schedule[..day.choices].iter().filter(|&&own| own == Some(slot));
+        &self.lists[slot * CHOICES..][..own.count()]
+    }
+}
+
+/// Whether the Rust blocks the chooser's edge to the choice in some slot. On a
+/// day without slots it has no pairs at all, and document 01 is read instead.
+fn is_blocked(day: &Day, state: &oracle::State, chooser: usize, choice: usize) -> bool {
+    if day.slots == 0 {
+        return reading::is_blocked(day, &state.schedule, chooser, choice);
+    }
+    let to = day.choosers * day.slots + choice;
+    let is_pair = |slot| state.blocked.binary_search(&(chooser * day.slots + slot, to)).is_ok();
+    (0..day.slots).any(is_pair)
+}

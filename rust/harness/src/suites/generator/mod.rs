@@ -1,0 +1,60 @@
+//! Exercises the random days and the originals on them: states carried through
+//! chains of schedules, models, plans, scores and searches. Over a run each
+//! feature that the days and answers should have must have been seen.
+mod days;
+mod models;
+mod plans;
+mod searches;
+mod states;
+
+use crate::bridge;
+use crate::day::{Day, Size, random_day};
+use crate::features::Features;
+use crate::random::Random;
+use crate::run::{Outcome, Run};
+use crate::schedule::Schedule;
+use oracle::{Problem, Solver};
+
+/// Fewer days than these need not show every feature.
+const DAYS_FOR_FEATURES: u64 = 2_000;
+
+/// A day with the schedule that the originals were led to.
+struct Scene<'a> {
+    size: Size,
+    day: &'a Day,
+    problem: &'a Problem,
+    schedule: Schedule,
+    solver: Solver<'a>,
+}
+
+impl Scene<'_> {
+    /// The schedule's entries for the day's choices.
+    fn slots(&self) -> &[Option<usize>] {
+        &self.schedule[..self.day.choices]
+    }
+}
+
+pub fn run(run: &mut Run) {
+    let mut features = Features::default();
+    for _ in 0..run.count() {
+        run.case(|random| one_day(random, &mut features));
+    }
+    if run.count() >= DAYS_FOR_FEATURES {
+        run.over_all(|| features.all_seen());
+    }
+}
+
+fn one_day(random: &mut Random, features: &mut Features) -> Outcome {
+    let size = match random.below(10) {
+        0..6 => Size::Small,
+        6..9 => Size::Middle,
+        _ => Size::Full,
+    };
+    let day = random_day(random, size);
+    days::look(features, &day);
+    let problem = bridge::problem(&day);
+    let mut scene = states::walk_chain(random, features, size, &day, &problem)?;
+    models::try_limits(random, features, &mut scene)?;
+    plans::try_plans(random, features, &mut scene)?;
+    searches::try_searches(random, features, &mut scene)
+}

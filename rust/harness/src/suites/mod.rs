@@ -1,0 +1,28 @@
+//! The suites, each a name and a function that makes its cases.
+use crate::run::Run;
+
+mod best;
+mod compare;
+mod constants;
+mod generator;
+mod header;
+mod is_finite;
+pub mod negation;
+mod reading;
+mod records;
+mod sample;
+
+pub type Suite = (&'static str, fn(&mut Run));
+
+pub const SUITES: &[Suite] = &[
+    ("header", header::run),
+    ("negation", negation::run),
+    ("compare", compare::run),
+    ("is_finite", is_finite::run),
+    ("best", best::run),
+    ("constants", constants::run),
+    ("sample", sample::run),
+    ("records", records::run),
+    ("reading", reading::run),
+    ("generator", generator::run),
+];

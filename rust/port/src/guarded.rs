@@ -1,0 +1,158 @@
+//! Buffers to lend to a call, with guard zones on both sides, so that every
+//! byte in them and around them can be compared afterwards.
+use std::fmt;
+use std::mem::size_of;
+
+/// Elements of each guard zone.
+const ZONE: usize = 256;
+
+/// A number of which a buffer can be made.
+pub trait Element: Copy + PartialEq + fmt::Debug {
+    /// The bytes as they lie in memory.
+    fn bytes(self) -> Vec<u8>;
+    /// The number that has these bytes in memory.
+    fn of_bytes(bytes: &[u8]) -> Self;
+}
+
+macro_rules! elements {
+    ($($number:ty)*) => {
+        $(impl Element for $number {
+            fn bytes(self) -> Vec<u8> {
+                self.to_ne_bytes().to_vec()
+            }
+            fn of_bytes(bytes: &[u8]) -> Self {
+                Self::from_ne_bytes(bytes.try_into().expect("as many bytes as the number has"))
+            }
+        })*
+    };
+}
+
+elements!(u8 u16 i32 u32 i64);
+
+/// A byte that is not as it should be, counted from the start of its zone.
+#[derive(Debug, Clone, Copy, PartialEq, Eq)]
+pub enum Change {
+    Before(usize),
+    Inside(usize),
+    After(usize),
+}
+
+/// A buffer of exactly the length of its contents, within guard zones.
+#[derive(Debug, Clone)]
+pub struct Guarded<T> {
+    cells: Vec<T>,
+    contents: Vec<T>,
+}
+
+impl<T: Element> Guarded<T> {
+    /// A buffer that holds `contents`.
+    pub fn holding(contents: &[T]) -> Self {
+        let zone = pattern(ZONE);
+        let cells = [&zone, contents, &zone].concat();
+        Self { cells, contents: contents.to_vec() }
+    }
+
+    /// A buffer of this length, filled with the pattern of the guard zones.
+    pub fn patterned(length: usize) -> Self {
+        Self::holding(&pattern(length))
+    }
+
+    /// The buffer, to be lent to a call.
+    pub fn lend(&mut self) -> &mut [T] {
+        let end = self.cells.len() - ZONE;
+        &mut self.cells[ZONE..end]
+    }
+
+    /// The contents as they are now.
+    pub fn now(&self) -> &[T] {
+        &self.cells[ZONE..self.cells.len() - ZONE]
+    }
+
+    /// The first byte, in or around the buffer, that is not as it was made.
+    pub fn changed(&self) -> Option<Change> {
+        self.differs_from(&self.contents)
+    }
+
+    /// The first byte in the buffer that is not as in `wanted`, or around it
+    /// that is not as it was made. Bytes outside come first.
+    ///
+    /// # Panics
+    ///
+    /// Panics if `wanted` has not the length of the buffer.
+    pub fn differs_from(&self, wanted: &[T]) -> Option<Change> {
+        assert_eq!(wanted.len(), self.contents.len());
+        let zone = pattern(ZONE);
+        let (before, rest) = self.cells.split_at(ZONE);
+        let (inside, after) = rest.split_at(wanted.len());
+        first_difference(before, &zone)
+            .map(Change::Before)
+            .or_else(|| first_difference(after, &zone).map(Change::After))
+            .or_else(|| first_difference(inside, wanted).map(Change::Inside))
+    }
+}
+
+/// Bytes that count up from C3 in steps of 29: no zeros, no run of equal bytes,
+/// and a shift by one shows.
+fn pattern<T: Element>(length: usize) -> Vec<T> {
+    let byte = |index: usize| (0xC3 + index * 29 % 61) as u8;
+    let cell = |cell: usize| {
+        let first = cell * size_of::<T>();
+        T::of_bytes(&(first..first + size_of::<T>()).map(byte).collect::<Vec<_>>())
+    };
+    (0..length).map(cell).collect()
+}
+
+/// The first byte in which the two differ.
+fn first_difference<T: Element>(left: &[T], right: &[T]) -> Option<usize> {
+    let cell = left.iter().zip(right).position(|(left, right)| left != right)?;
+    let (left, right) = (left[cell].bytes(), right[cell].bytes());
+    let byte = left.iter().zip(&right).position(|(left, right)| left != right);
+    Some(cell * size_of::<T>() + byte.expect("unequal numbers have unequal bytes"))
+}
+
+#[cfg(test)]
+mod tests {
+    use super::{Change, Element, Guarded, ZONE};
+
+    /// Flips each byte in and around a buffer in turn: each must be found.
+    fn every_byte_is_watched<T: Element>(length: usize) {
+        let made = Guarded::<T>::patterned(length);
+        assert_eq!(made.changed(), None);
+        assert_eq!(made.now().len(), length);
+        let size = size_of::<T>();
+        for byte in 0..made.cells.len() * size {
+            let mut other = made.clone();
+            let mut bytes = other.cells[byte / size].bytes();
+            bytes[byte % size] ^= 1;
+            other.cells[byte / size] = T::of_bytes(&bytes);
+            let (start, end) = (ZONE * size, (ZONE + length) * size);
+            let wanted = match byte {
+                _ if byte < start => Change::Before(byte),
+                _ if byte < end => Change::Inside(byte - start),
+                _ => Change::After(byte - end),
+            };
+            assert_eq!(other.changed(), Some(wanted));
+        }
+    }
+
+    #[test]
+    fn watches_every_byte() {
+        for length in [0, 1, 7] {
+            every_byte_is_watched::<u8>(length);
+            every_byte_is_watched::<u16>(length);
+            every_byte_is_watched::<i32>(length);
+            every_byte_is_watched::<u32>(length);
+            every_byte_is_watched::<i64>(length);
+        }
+    }
+
+    #[test]
+    fn lends_its_contents() {
+        let mut buffer = Guarded::holding(&[3_i64, -4]);
+        assert_eq!(buffer.lend(), [3, -4]);
+        buffer.lend()[1] = 5;
+        assert_eq!(buffer.now(), [3, 5]);
+        assert_eq!(buffer.changed(), Some(Change::Inside(8)));
+        assert_eq!(buffer.differs_from(&[3, 5]), None);
+    }
+}
