@@ -46,6 +46,84 @@ typedef struct {
     int32_t extra;
 } cendravoka_negation_answer;
 
+/* A constraint of a day, in the numbers of the negation's answer. */
+typedef struct {
+    uint32_t kind;
+    uint32_t left;
+    uint32_t target_case;
+    uint32_t target;
+    uint32_t extra_case;
+    int32_t extra;
+} cendravoka_constraint;
+
+/* The first count entries are the list. */
+typedef struct {
+    size_t count;
+    cendravoka_constraint entries[32];
+} cendravoka_constraint_list;
+
+/* A day. The members of the dependent groups stand one group after the other;
+ * the first groups of the lengths part them. */
+typedef struct {
+    size_t choosers;
+    size_t choices;
+    size_t slots;
+    uint32_t max_preference;
+    uint32_t mins[32];
+    uint32_t maxs[32];
+    bool optional[32];
+    cendravoka_constraint_list scheduling;
+    cendravoka_constraint_list assignment;
+    size_t groups;
+    uint32_t lengths[16];
+    uint32_t members[32];
+} cendravoka_input_data;
+
+/* An entry is 0 where the choice has no slot, and s + 1 where it is in slot s.
+ * Entries past the day's choices are ignored, and handed back as 0. */
+typedef struct {
+    uint8_t entries[32];
+} cendravoka_scheduling;
+
+/* The state carried from schedule to schedule, without the slot lists, which
+ * stand in the lent buffer: 32 bytes a slot. The block of chooser c and choice
+ * k is at 32 * c + k. */
+typedef struct {
+    cendravoka_scheduling schedule;
+    uint32_t covered[8];
+    bool blocks[2048];
+} cendravoka_schedule_state;
+
+typedef struct {
+    uint32_t number;
+    cendravoka_schedule_state state;
+} cendravoka_state_answer;
+
+/* Where a slot's list stands in the lent buffer, and how long it is. */
+typedef struct {
+    uint32_t number;
+    size_t start;
+    size_t length;
+} cendravoka_slot_list_answer;
+
+/* A fresh build of the state of a schedule. The slot lists are written into
+ * lists, of at least 256 bytes. Refused by 1, 2, 3, 4, 7, 8, 9, 10, 11. */
+cendravoka_state_answer cendravoka_build(cendravoka_input_data day, cendravoka_scheduling schedule,
+                                         uint8_t *lists, size_t lists_length);
+
+/* An update of a state, and of the slot lists that stand in lists, to another
+ * schedule. Refused by 1, 2, 3, 4, 7, 8, 9, 10, 11 (of either schedule), 12. */
+cendravoka_state_answer cendravoka_update(cendravoka_input_data day, cendravoka_schedule_state state,
+                                          cendravoka_scheduling schedule, uint8_t *lists,
+                                          size_t lists_length);
+
+/* The list of a slot. Refused by 1, 2, 3, 4, 7, 8, 9 (a slot outside the day
+ * too), 10, 11, 12. */
+cendravoka_slot_list_answer cendravoka_slot_list(cendravoka_input_data day,
+                                                 cendravoka_schedule_state state,
+                                                 const uint8_t *lists, size_t lists_length,
+                                                 size_t slot);
+
 /* Constraint::negation. 9: kind 6, SlotHasLimitedSize, without an operator. */
 cendravoka_negation_answer cendravoka_negation(uint32_t kind, uint32_t left, uint32_t target_case,
                                                uint32_t target, uint32_t extra_case, int32_t extra);

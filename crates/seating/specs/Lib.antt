@@ -1,3 +1,5 @@
 -- What the exported entries give.
 pub mod Constraints
 pub mod Scores
+pub mod States
+pub mod SampleDay

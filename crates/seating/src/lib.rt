@@ -1,3 +1,4 @@
 // The exported C entries: numbers and slices in, numbers out. include/cendravoka.h declares them.
 pub mod constraints;
 pub mod scores;
+pub mod states;

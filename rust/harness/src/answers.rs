@@ -1,8 +1,11 @@
 //! Answers of the original Rust in the form of the port's.
+use crate::boundary;
 use crate::bridge;
 use crate::constraint::Constraint;
+use crate::day::{CHOICES, CHOOSERS, Day, SLOTS};
 use crate::panics::caught;
-use port::{BestAnswer, NegationAnswer, Score};
+use crate::state::blocks_of;
+use port::{BestAnswer, NegationAnswer, ScheduleState, Scheduling, Score, StateAnswer};
 use std::cmp::Ordering;
 
 /// A major and a minor.
@@ -61,4 +64,20 @@ pub fn score_bits((major, minor): Pair) -> Score {
         if float.is_nan() { 0x7FC0_0000 } else { float.to_bits() }
     };
     Score { major: bits(major), minor: bits(minor) }
+}
+
+/// The Rust's state: beyond the day's sizes none, 0 and no.
+pub fn state(day: &Day, state: &oracle::State) -> StateAnswer {
+    let mut covered = [0; SLOTS];
+    covered[..day.slots].copy_from_slice(&state.covered);
+    let schedule = Scheduling { entries: boundary::entries(&state.schedule) };
+    let blocks = blocks_of(day, state);
+    StateAnswer { number: 0, state: ScheduleState { schedule, covered, blocks } }
+}
+
+/// A number and zeros.
+pub fn refused_state(number: u32) -> StateAnswer {
+    let schedule = Scheduling { entries: [0; CHOICES] };
+    let blocks = [false; CHOOSERS * CHOICES];
+    StateAnswer { number, state: ScheduleState { schedule, covered: [0; SLOTS], blocks } }
 }

@@ -120,6 +120,15 @@ pub enum Size {
     Full,
 }
 
+/// Mostly small days, which are quick and hit the edges.
+pub fn random_size(random: &mut Random) -> Size {
+    match random.below(10) {
+        0..6 => Size::Small,
+        6..9 => Size::Middle,
+        _ => Size::Full,
+    }
+}
+
 /// A random sound day.
 pub fn random_day(random: &mut Random, size: Size) -> Day {
     let (choosers, choices, slots) = random_sizes(random, size);
@@ -151,10 +160,19 @@ fn random_sizes(random: &mut Random, size: Size) -> (usize, usize, usize) {
     }
 }
 
-/// Mins and maxs around what an even spread needs, or with room for everybody.
+/// Mins and maxs around what an even spread needs, or with room for everybody;
+/// now and then any that are allowed.
 fn put_seats(random: &mut Random, day: &mut Day) {
     let even = (day.choosers * day.slots).div_ceil(day.choices.max(1));
     let roomy = random.chance(60);
+    if random.chance(5) {
+        for choice in 0..day.choices {
+            let any = random.below(MOST_SEATS as usize + 1) as u32;
+            day.maxs[choice] = random.pick(&[any, MOST_SEATS]);
+            day.mins[choice] = random.pick(&[any, any / 2, day.maxs[choice]]);
+        }
+        return;
+    }
     for choice in 0..day.choices {
         let min = random.below(if roomy { even / 3 } else { even } + 1);
         let room = random.below(2 * even + 2) + if roomy { 2 * even } else { 0 };

@@ -3,11 +3,13 @@
 #![forbid(unsafe_code)]
 
 pub mod answers;
+pub mod boundary;
 pub mod bridge;
 pub mod constraint;
 pub mod damage;
 pub mod day;
 pub mod features;
+pub mod lists;
 pub mod options;
 pub mod panics;
 pub mod plan;

@@ -7,7 +7,6 @@ const USAGE: &str = "differential [--seed N] [--count N] [--only NAME [--case N]
 
 /// What the gate runs with.
 const SEED: u64 = 1;
-const COUNT: u64 = 5_000;
 
 #[derive(Debug)]
 pub struct Options {
@@ -19,7 +18,7 @@ pub struct Options {
 impl Options {
     /// Reads the words of a command line, or says what is wrong with them.
     pub fn read(mut words: impl Iterator<Item = String>) -> Result<Self, String> {
-        let settings = Settings { seed: SEED, count: COUNT, case: None, records: None };
+        let settings = Settings { seed: SEED, count: None, case: None, records: None };
         let mut options = Self { settings, only: None, write_records: None };
         while let Some(word) = words.next() {
             let Some(value) = words.next() else {
@@ -28,7 +27,7 @@ impl Options {
             let number = || value.parse().map_err(|_| format!("{word} takes a number\n{USAGE}"));
             match word.as_str() {
                 "--seed" => options.settings.seed = number()?,
-                "--count" => options.settings.count = number()?,
+                "--count" => options.settings.count = Some(number()?),
                 "--case" => options.settings.case = Some(number()?),
                 "--only" => options.only = Some(suite_name(value)?),
                 "--check-records" => options.settings.records = Some(value),

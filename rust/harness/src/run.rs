@@ -7,12 +7,16 @@ use std::fmt::Debug;
 /// Failed cases of a suite that are printed; the rest are counted.
 const PRINTED: u64 = 20;
 
+/// The random days of a suite that names no other number.
+const DAYS: u64 = 5_000;
+
 /// What the whole run was told.
 #[derive(Debug, Clone)]
 pub struct Settings {
     pub seed: u64,
-    /// Random days in each suite over days; other suites have a multiple of it.
-    pub count: u64,
+    /// Random days in each suite over days, where they are not its usual ones;
+    /// other suites have a multiple of it.
+    pub count: Option<u64>,
     /// The one case to run.
     pub case: Option<u64>,
     /// The file of recorded answers to look at.
@@ -68,7 +72,12 @@ impl<'a> Run<'a> {
     }
 
     pub fn count(&self) -> u64 {
-        self.settings.count
+        self.days(DAYS)
+    }
+
+    /// As many days as the run was told, or else these.
+    pub fn days(&self, usual: u64) -> u64 {
+        self.settings.count.unwrap_or(usual)
     }
 
     pub fn records(&self) -> Option<&'a str> {
@@ -108,11 +117,13 @@ impl<'a> Run<'a> {
     fn print(&self, case: Option<u64>, failure: &Failure) {
         let Settings { seed, count, records, .. } = self.settings;
         let suite = self.suite;
-        let (name, which) = match case {
-            Some(case) => (format!("case {case}"), format!("--case {case}")),
-            None => ("over all cases".to_owned(), format!("--count {count}")),
-        };
-        let records = records.iter().map(|path| format!(" --check-records {path}"));
+        let name = case.map_or("over all cases".to_owned(), |case| format!("case {case}"));
+        // A case past the usual ones needs the count that it was found with.
+        let told = [
+            case.map(|case| format!(" --case {case}")),
+            count.map(|count| format!(" --count {count}")),
+            records.as_ref().map(|path| format!(" --check-records {path}")),
+        ];
         println!("FAILED {suite}, seed {seed}, {name}");
         if !failure.input.is_empty() {
             println!("  input: {}", failure.input);
@@ -122,8 +133,8 @@ impl<'a> Run<'a> {
         }
         println!(
             "  again: cargo run --release --offline --manifest-path rust/Cargo.toml \
-             --bin differential -- --only {suite} --seed {seed} {which}{}",
-            records.collect::<String>()
+             --bin differential -- --only {suite} --seed {seed}{}",
+            told.into_iter().flatten().collect::<String>()
         );
     }
 

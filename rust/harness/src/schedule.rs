@@ -10,10 +10,10 @@ pub type Schedule = Vec<Option<usize>>;
 pub const CHAIN: usize = 40;
 
 pub fn random_schedule(random: &mut Random, day: &Day) -> Schedule {
-    let mut schedule = if random.chance(60) {
-        dealt(random, day)
-    } else {
-        (0..day.choices).map(|_| random_slot(random, day)).collect()
+    let mut schedule = match random.below(10) {
+        0..6 => dealt(random, day),
+        6 => vec![random_slot(random, day); day.choices],
+        _ => (0..day.choices).map(|_| random_slot(random, day)).collect(),
     };
     let left_out = random.pick(&[0, 0, 0, 5, 20, 50]);
     for slot in &mut schedule {

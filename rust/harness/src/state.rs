@@ -3,13 +3,14 @@ use crate::day::{CHOICES, CHOOSERS, Day, SLOTS};
 use crate::random::Random;
 use crate::reading;
 use crate::schedule::Schedule;
+use std::fmt;
 
 /// The named length of the slot lists.
 pub const LISTS: usize = SLOTS * CHOICES;
 
 /// Whatever lies past the day's choices, slots and choosers, and past the used
 /// front of a slot's list, may be anything.
-#[derive(Debug, Clone)]
+#[derive(Clone)]
 pub struct State {
     pub schedule: Schedule,
     /// A count for each of the 8 slots.
@@ -36,10 +37,9 @@ impl State {
             }
         }
         let mut blocks = vec![junk > 0; CHOOSERS * CHOICES];
-        for chooser in 0..day.choosers {
-            for choice in 0..day.choices {
-                blocks[chooser * CHOICES + choice] = is_blocked(day, state, chooser, choice);
-            }
+        let own = blocks_of(day, state);
+        for row in (0..day.choosers).map(|chooser| chooser * CHOICES) {
+            blocks[row..][..day.choices].copy_from_slice(&own[row..][..day.choices]);
         }
         Self { schedule, covered, blocks, lists }
     }
@@ -51,13 +51,37 @@ impl State {
     }
 }
 
-/// Whether the Rust blocks the chooser's edge to the choice in some slot. On a
-/// day without slots it has no pairs at all, and document 01 is read instead.
-fn is_blocked(day: &Day, state: &oracle::State, chooser: usize, choice: usize) -> bool {
-    if day.slots == 0 {
-        return reading::is_blocked(day, &state.schedule, chooser, choice);
+impl fmt::Debug for State {
+    /// Blocks show as pairs of chooser and choice.
+    fn fmt(&self, formatter: &mut fmt::Formatter) -> fmt::Result {
+        let places = self.blocks.iter().enumerate().filter(|(_, block)| **block);
+        let pairs = places.map(|(place, _)| (place / CHOICES, place % CHOICES)).collect::<Vec<_>>();
+        formatter
+            .debug_struct("State")
+            .field("schedule", &self.schedule)
+            .field("covered", &self.covered)
+            .field("blocks", &pairs)
+            .field("lists", &self.lists)
+            .finish()
     }
-    let to = day.choosers * day.slots + choice;
-    let is_pair = |slot| state.blocked.binary_search(&(chooser * day.slots + slot, to)).is_ok();
-    (0..day.slots).any(is_pair)
+}
+
+/// Whether the Rust blocks a chooser's edge to a choice in some slot, at
+/// c × 32 + k. On a day without slots it has no pairs at all, and document 01 is
+/// read instead.
+pub fn blocks_of(day: &Day, state: &oracle::State) -> [bool; CHOOSERS * CHOICES] {
+    let mut blocks = [false; CHOOSERS * CHOICES];
+    for &(from, to) in &state.blocked {
+        let (chooser, choice) = (from / day.slots, to - day.choosers * day.slots);
+        blocks[chooser * CHOICES + choice] = true;
+    }
+    if day.slots == 0 {
+        for chooser in 0..day.choosers {
+            for choice in 0..day.choices {
+                let is_blocked = reading::is_blocked(day, &state.schedule, chooser, choice);
+                blocks[chooser * CHOICES + choice] = is_blocked;
+            }
+        }
+    }
+    blocks
 }

@@ -66,7 +66,6 @@ use mip_flow::MipFlow;
 use mip_flow_static_data::MipFlowStaticData;
 use options::Options;
 use prepared_problem::PreparedProblem;
-use scheduling::Scheduling;
 use score::Score;
 use scoring::Scoring;
 use solution::Solution;
@@ -74,13 +73,14 @@ use stand_in::critical_set::CriticalSet;
 use stand_in::{InputError, Result, shotgun_solver, status, util};
 
 pub use assignment_solver::search::{Ask, SearchRun};
-pub use assignment_solver::state::{Solver, State};
+pub use assignment_solver::state::{Carried, Solver, State};
 pub use constraint::{
     Constraint, ConstraintExtra, ConstraintTarget, ConstraintType, SlotSizeLimitOp,
 };
 pub use good_lp::{Edge, Outcome, Record, Told, solve};
 pub use input_data::InputData;
 pub use problem::Problem;
+pub use scheduling::Scheduling;
 pub use stand_in::{ChoiceData, ChooserData, SlotData};
 
 /// A slot or none for each choice.

@@ -31,7 +31,97 @@ pub struct NegationAnswer {
     pub extra: i32,
 }
 
+/// A constraint in numbers, as the header explains them.
+#[repr(C)]
+#[derive(Debug, Clone, Copy, PartialEq, Eq, Default)]
+pub struct Constraint {
+    pub kind: u32,
+    pub left: u32,
+    pub target_case: u32,
+    pub target: u32,
+    pub extra_case: u32,
+    pub extra: i32,
+}
+
+/// The first `count` entries are the list.
+#[repr(C)]
+#[derive(Debug, Clone, Copy, PartialEq, Eq)]
+pub struct ConstraintList {
+    pub count: usize,
+    pub entries: [Constraint; 32],
+}
+
+/// A day.
+#[repr(C)]
+#[derive(Debug, Clone, Copy, PartialEq, Eq)]
+pub struct InputData {
+    pub choosers: usize,
+    pub choices: usize,
+    pub slots: usize,
+    pub max_preference: u32,
+    pub mins: [u32; 32],
+    pub maxs: [u32; 32],
+    pub optional: [bool; 32],
+    pub scheduling: ConstraintList,
+    pub assignment: ConstraintList,
+    pub groups: usize,
+    pub lengths: [u32; 16],
+    pub members: [u32; 32],
+}
+
+/// An entry is 0 where the choice has no slot, and s + 1 where it is in slot s.
+#[repr(C)]
+#[derive(Debug, Clone, Copy, PartialEq, Eq)]
+pub struct Scheduling {
+    pub entries: [u8; 32],
+}
+
+/// The block of chooser c and choice k is at 32 * c + k.
+#[repr(C)]
+#[derive(Clone, Copy, PartialEq, Eq)]
+pub struct ScheduleState {
+    pub schedule: Scheduling,
+    pub covered: [u32; 8],
+    pub blocks: [bool; 2048],
+}
+
+#[repr(C)]
+#[derive(Debug, Clone, Copy, PartialEq, Eq)]
+pub struct StateAnswer {
+    pub number: u32,
+    pub state: ScheduleState,
+}
+
+/// Where a slot's list stands in the lent buffer.
+#[repr(C)]
+#[derive(Debug, Clone, Copy, PartialEq, Eq)]
+pub struct SlotListAnswer {
+    pub number: u32,
+    pub start: usize,
+    pub length: usize,
+}
+
 unsafe extern "C" {
+    pub fn cendravoka_build(
+        day: InputData,
+        schedule: Scheduling,
+        lists: *mut u8,
+        lists_length: usize,
+    ) -> StateAnswer;
+    pub fn cendravoka_update(
+        day: InputData,
+        state: ScheduleState,
+        schedule: Scheduling,
+        lists: *mut u8,
+        lists_length: usize,
+    ) -> StateAnswer;
+    pub fn cendravoka_slot_list(
+        day: InputData,
+        state: ScheduleState,
+        lists: *const u8,
+        lists_length: usize,
+        slot: usize,
+    ) -> SlotListAnswer;
     pub safe fn cendravoka_negation(
         kind: u32,
         left: u32,

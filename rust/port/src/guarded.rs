@@ -42,6 +42,7 @@ pub enum Change {
 pub struct Guarded<T> {
     cells: Vec<T>,
     contents: Vec<T>,
+    zone: Vec<T>,
 }
 
 impl<T: Element> Guarded<T> {
@@ -49,7 +50,7 @@ impl<T: Element> Guarded<T> {
     pub fn holding(contents: &[T]) -> Self {
         let zone = pattern(ZONE);
         let cells = [&zone, contents, &zone].concat();
-        Self { cells, contents: contents.to_vec() }
+        Self { cells, contents: contents.to_vec(), zone }
     }
 
     /// A buffer of this length, filled with the pattern of the guard zones.
@@ -81,12 +82,11 @@ impl<T: Element> Guarded<T> {
     /// Panics if `wanted` has not the length of the buffer.
     pub fn differs_from(&self, wanted: &[T]) -> Option<Change> {
         assert_eq!(wanted.len(), self.contents.len());
-        let zone = pattern(ZONE);
         let (before, rest) = self.cells.split_at(ZONE);
         let (inside, after) = rest.split_at(wanted.len());
-        first_difference(before, &zone)
+        first_difference(before, &self.zone)
             .map(Change::Before)
-            .or_else(|| first_difference(after, &zone).map(Change::After))
+            .or_else(|| first_difference(after, &self.zone).map(Change::After))
             .or_else(|| first_difference(inside, wanted).map(Change::Inside))
     }
 }
@@ -96,8 +96,9 @@ impl<T: Element> Guarded<T> {
 fn pattern<T: Element>(length: usize) -> Vec<T> {
     let byte = |index: usize| (0xC3 + index * 29 % 61) as u8;
     let cell = |cell: usize| {
-        let first = cell * size_of::<T>();
-        T::of_bytes(&(first..first + size_of::<T>()).map(byte).collect::<Vec<_>>())
+        // No number has more than 8 bytes.
+        let bytes = std::array::from_fn::<u8, 8, _>(|place| byte(cell * size_of::<T>() + place));
+        T::of_bytes(&bytes[..size_of::<T>()])
     };
     (0..length).map(cell).collect()
 }

@@ -7,7 +7,11 @@
 mod ffi;
 pub mod guarded;
 
-pub use ffi::{BestAnswer, NegationAnswer, Score};
+pub use ffi::{
+    BestAnswer, Constraint, ConstraintList, InputData, NegationAnswer, ScheduleState, Scheduling,
+    Score, SlotListAnswer, StateAnswer,
+};
+use std::fmt;
 
 /// The archive that is linked in.
 pub const ARCHIVE: &str = env!("CENDRAVOKA_ARCHIVE");
@@ -15,15 +19,50 @@ pub const ARCHIVE: &str = env!("CENDRAVOKA_ARCHIVE");
 /// The declarations of the entries, for a comparison with the header.
 pub const DECLARATIONS: &str = include_str!("ffi.rs");
 
-/// A constraint in numbers, as the header explains them.
-#[derive(Debug, Clone, Copy, PartialEq, Eq, Default)]
-pub struct Constraint {
-    pub kind: u32,
-    pub left: u32,
-    pub target_case: u32,
-    pub target: u32,
-    pub extra_case: u32,
-    pub extra: i32,
+impl fmt::Debug for ScheduleState {
+    /// Blocks show as pairs of chooser and choice.
+    fn fmt(&self, formatter: &mut fmt::Formatter) -> fmt::Result {
+        let places = self.blocks.iter().enumerate().filter(|(_, block)| **block);
+        let pairs = places.map(|(place, _)| (place / 32, place % 32)).collect::<Vec<_>>();
+        formatter
+            .debug_struct("ScheduleState")
+            .field("schedule", &self.schedule.entries)
+            .field("covered", &self.covered)
+            .field("blocks", &pairs)
+            .finish()
+    }
+}
+
+/// A fresh build of the state of a schedule. The slot lists go into `lists`.
+#[allow(unsafe_code)]
+pub fn build(day: &InputData, schedule: Scheduling, lists: &mut [u8]) -> StateAnswer {
+    // SAFETY: the pointer and the length are those of a slice that is lent for
+    // the call alone. The rest goes by value, and the entry tests it.
+    unsafe { ffi::cendravoka_build(*day, schedule, lists.as_mut_ptr(), lists.len()) }
+}
+
+/// An update of a state, and of its slot lists in `lists`, to another schedule.
+#[allow(unsafe_code)]
+pub fn update(
+    day: &InputData,
+    state: &ScheduleState,
+    schedule: Scheduling,
+    lists: &mut [u8],
+) -> StateAnswer {
+    // SAFETY: as in `build`.
+    unsafe { ffi::cendravoka_update(*day, *state, schedule, lists.as_mut_ptr(), lists.len()) }
+}
+
+/// Where the list of a slot stands in `lists`.
+#[allow(unsafe_code)]
+pub fn slot_list(
+    day: &InputData,
+    state: &ScheduleState,
+    lists: &[u8],
+    slot: usize,
+) -> SlotListAnswer {
+    // SAFETY: as in `build`; the entry only reads the slice.
+    unsafe { ffi::cendravoka_slot_list(*day, *state, lists.as_ptr(), lists.len(), slot) }
 }
 
 /// `Constraint::negation`.

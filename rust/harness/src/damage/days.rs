@@ -1,11 +1,10 @@
-//! Damage to a day and to the tables beside it.
+//! Damage to a day, and to what a call is asked about it.
 use super::{Damage, Input};
 use crate::constraint::{
     Constraint, OPERATORS, extra, kind, random_assignment, random_scheduling, target,
 };
 use crate::day::{
-    CHOICES, CHOOSERS, CONSTRAINTS, GROUPS, LEVELS, MEMBERS, MOST_COST, MOST_PREFERENCE,
-    MOST_SEATS, SLOTS,
+    CHOICES, CHOOSERS, CONSTRAINTS, GROUPS, MEMBERS, MOST_PREFERENCE, MOST_SEATS, SLOTS,
 };
 use crate::random::Random;
 use crate::reading::Asked;
@@ -15,18 +14,10 @@ pub const DAMAGES: &[Damage] = &[
     Damage { name: "too many choosers", number: 1, apply: choosers },
     Damage { name: "too many choices", number: 1, apply: choices },
     Damage { name: "too many slots", number: 1, apply: slots },
-    Damage { name: "a table of another length", number: 2, apply: table_length },
     Damage { name: "tables for a huge preference", number: 2, apply: huge_preference },
-    Damage { name: "a buffer too short", number: 2, apply: short_buffer },
     Damage { name: "min above max", number: 3, apply: min_above_max },
     Damage { name: "max above 1,000", number: 3, apply: max_too_large },
     Damage { name: "max_preference above 255", number: 4, apply: max_preference },
-    Damage { name: "a preference above max_preference", number: 4, apply: preference },
-    Damage { name: "too many levels", number: 5, apply: many_levels },
-    Damage { name: "equal levels", number: 5, apply: equal_levels },
-    Damage { name: "descending levels", number: 5, apply: descending_levels },
-    Damage { name: "a level above max_preference", number: 5, apply: high_level },
-    Damage { name: "a cost out of range", number: 6, apply: cost },
     Damage { name: "too many constraints", number: 7, apply: many_constraints },
     Damage { name: "a wrong kind of scheduling constraint", number: 8, apply: scheduling_kind },
     Damage { name: "a wrong kind of assignment constraint", number: 8, apply: assignment_kind },
@@ -56,40 +47,11 @@ fn slots(random: &mut Random, input: &mut Input) -> Option<()> {
     Some(())
 }
 
-fn table_length(random: &mut Random, input: &mut Input) -> Option<()> {
-    let day = &mut input.day;
-    match random.below(4) {
-        0 => resize(random, &mut day.preferences, 0),
-        1 => resize(random, &mut day.powers, 0.0),
-        2 => resize(random, &mut day.costs, 0),
-        _ => resize(random, &mut input.plan, 0),
-    }
-}
-
-/// One shorter, one longer, twice as long or empty.
-fn resize<T: Clone>(random: &mut Random, table: &mut Vec<T>, fill: T) -> Option<()> {
-    let length = table.len();
-    let new = random.pick(&[length.saturating_sub(1), length + 1, 2 * length, 0]);
-    table.resize(new, fill);
-    (new != length).then_some(())
-}
-
 /// Its table length must not be formed in 32 bits.
 fn huge_preference(random: &mut Random, input: &mut Input) -> Option<()> {
     input.day.max_preference = random.pick(&[u32::MAX, u32::MAX - 1, 1 << 31]);
     input.day.powers.truncate(random.below(2));
     input.day.costs.truncate(random.below(2));
-    Some(())
-}
-
-fn short_buffer(random: &mut Random, input: &mut Input) -> Option<()> {
-    if random.chance(10) {
-        input.state.lists.pop();
-        return Some(());
-    }
-    let place = random.below(input.buffers.len());
-    let (buffer, length) = &mut input.buffers[place];
-    *length = random.pick(&[buffer.named_length() - 1, 1, 0]);
     Some(())
 }
 
@@ -116,47 +78,6 @@ fn max_preference(random: &mut Random, input: &mut Input) -> Option<()> {
     let length = input.day.max_preference as usize + 1;
     input.day.powers.resize(length, 1.0);
     input.day.costs.resize(length, 1);
-    Some(())
-}
-
-fn preference(random: &mut Random, input: &mut Input) -> Option<()> {
-    let places = (0..input.day.preferences.len()).collect::<Vec<_>>();
-    let place = random.pick_some(&places)?;
-    let above = input.day.max_preference.checked_add(1)?;
-    input.day.preferences[place] = random.pick(&[above, u32::MAX]);
-    Some(())
-}
-
-fn many_levels(_: &mut Random, input: &mut Input) -> Option<()> {
-    input.day.levels = (0..=LEVELS as u32).collect();
-    Some(())
-}
-
-fn equal_levels(random: &mut Random, input: &mut Input) -> Option<()> {
-    let level = random.pick_some(&input.day.levels)?;
-    let place = input.day.levels.iter().position(|&own| own == level)?;
-    input.day.levels.insert(place, level);
-    Some(())
-}
-
-fn descending_levels(random: &mut Random, input: &mut Input) -> Option<()> {
-    let pairs = (1..input.day.levels.len()).collect::<Vec<_>>();
-    let second = random.pick_some(&pairs)?;
-    input.day.levels.swap(second - 1, second);
-    Some(())
-}
-
-fn high_level(random: &mut Random, input: &mut Input) -> Option<()> {
-    let above = input.day.max_preference.checked_add(1)?;
-    input.day.levels.truncate(LEVELS - 1);
-    input.day.levels.push(random.pick(&[above, u32::MAX]));
-    Some(())
-}
-
-fn cost(random: &mut Random, input: &mut Input) -> Option<()> {
-    let places = (0..input.day.costs.len()).collect::<Vec<_>>();
-    let place = random.pick_some(&places)?;
-    input.day.costs[place] = random.pick(&[-1, i64::MIN, MOST_COST + 1, i64::MAX]);
     Some(())
 }
 
@@ -258,7 +179,7 @@ fn wrong_extra(random: &mut Random, input: &mut Input) -> Option<()> {
 }
 
 fn asked(random: &mut Random, input: &mut Input) -> Option<()> {
-    let beyond = random.pick(&[0, 1, 300]);
+    let beyond = random.pick(&[0, 1, 300, usize::MAX]);
     let asked = match random.below(3) {
         0 => Asked::Chooser(input.day.choosers.saturating_add(beyond)),
         1 => Asked::Choice(input.day.choices.saturating_add(beyond)),

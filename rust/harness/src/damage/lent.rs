@@ -1,19 +1,20 @@
-//! Damage to schedules, states and plans.
+//! Damage to schedules and states.
 use super::{Damage, Input};
 use crate::day::{CHOICES, CHOOSERS, SLOTS};
 use crate::random::Random;
+use crate::state::LISTS;
 
 pub const DAMAGES: &[Damage] = &[
+    Damage { name: "slot lists too short", number: 2, apply: short_lists },
     Damage { name: "a slot that the day has not", number: 11, apply: wrong_slot },
     Damage { name: "a slot that the day has not, in the state", number: 11, apply: own_slot },
+    Damage { name: "such slots in both schedules", number: 11, apply: both_slots },
     Damage { name: "covered off by one", number: 12, apply: covered },
     Damage { name: "a block flipped", number: 12, apply: block },
     Damage { name: "two entries exchanged between slots", number: 12, apply: exchanged },
     Damage { name: "a repeated entry", number: 12, apply: repeated },
     Damage { name: "an entry that is no choice", number: 12, apply: wrong_entry },
     Damage { name: "a state under another schedule", number: 12, apply: other_schedule },
-    Damage { name: "a seat in no choice", number: 13, apply: wrong_seat },
-    Damage { name: "a seat in an unscheduled choice", number: 13, apply: unscheduled_seat },
     Damage { name: "entries of a list in another order", number: 0, apply: reordered },
     Damage { name: "anything past the used fronts", number: 0, apply: past_fronts },
     Damage { name: "anything past the day in a state", number: 0, apply: past_day },
@@ -22,11 +23,15 @@ pub const DAMAGES: &[Damage] = &[
         number: 0,
         apply: past_choices,
     },
-    Damage { name: "anything past the last seat", number: 0, apply: past_seats },
 ];
 
-fn some_index(random: &mut Random, end: usize) -> Option<usize> {
+pub(super) fn some_index(random: &mut Random, end: usize) -> Option<usize> {
     (end > 0).then(|| random.below(end))
+}
+
+fn short_lists(random: &mut Random, input: &mut Input) -> Option<()> {
+    input.state.lists.truncate(random.pick(&[LISTS - 1, CHOICES, 1, 0]));
+    Some(())
 }
 
 fn wrong_slot(random: &mut Random, input: &mut Input) -> Option<()> {
@@ -41,6 +46,11 @@ fn own_slot(random: &mut Random, input: &mut Input) -> Option<()> {
     let slots = input.day.slots;
     input.state.schedule[choice] = Some(random.pick(&[slots, slots.saturating_add(1)]));
     Some(())
+}
+
+fn both_slots(random: &mut Random, input: &mut Input) -> Option<()> {
+    wrong_slot(random, input)?;
+    own_slot(random, input)
 }
 
 fn covered(random: &mut Random, input: &mut Input) -> Option<()> {
@@ -104,26 +114,6 @@ fn other_schedule(random: &mut Random, input: &mut Input) -> Option<()> {
     Some(())
 }
 
-fn wrong_seat(random: &mut Random, input: &mut Input) -> Option<()> {
-    let seat = some_seat(random, input)?;
-    let choices = u8::try_from(input.day.choices).ok()?;
-    input.plan[seat] = random.pick(&[choices, choices.saturating_add(1), 255]);
-    Some(())
-}
-
-fn unscheduled_seat(random: &mut Random, input: &mut Input) -> Option<()> {
-    let seat = some_seat(random, input)?;
-    let choices = 0..input.day.choices.min(CHOICES);
-    let left_out = choices.filter(|&choice| input.schedule[choice].is_none()).collect::<Vec<_>>();
-    input.plan[seat] = random.pick_some(&left_out)? as u8;
-    Some(())
-}
-
-fn some_seat(random: &mut Random, input: &Input) -> Option<usize> {
-    let seats = input.day.choosers.saturating_mul(input.day.slots);
-    some_index(random, seats.min(input.plan.len()))
-}
-
 fn reordered(random: &mut Random, input: &mut Input) -> Option<()> {
     for slot in 0..input.day.slots {
         let length = input.state.front(&input.day, slot).len();
@@ -162,11 +152,5 @@ fn past_choices(random: &mut Random, input: &mut Input) -> Option<()> {
         input.schedule[choice] = random.chance(70).then(|| random.below(255));
         input.state.schedule[choice] = random.chance(70).then(|| random.below(255));
     }
-    Some(())
-}
-
-fn past_seats(random: &mut Random, input: &mut Input) -> Option<()> {
-    let seats = input.day.choosers * input.day.slots;
-    input.plan[seats..].fill_with(|| random.bits() as u8);
     Some(())
 }

@@ -2,6 +2,8 @@
 //! known number, and changes that must make no difference.
 mod days;
 mod lent;
+mod plans;
+mod tables;
 pub mod values;
 
 use crate::bridge;
@@ -93,7 +95,19 @@ pub struct Damage {
     pub apply: fn(&mut Random, &mut Input) -> Option<()>,
 }
 
-/// Every kind of damage.
-pub fn all() -> impl Iterator<Item = &'static Damage> {
-    days::DAMAGES.iter().chain(lent::DAMAGES)
+/// Every kind of damage, by number.
+pub fn all() -> Vec<&'static Damage> {
+    by_number(&[days::DAMAGES, tables::DAMAGES, lent::DAMAGES, plans::DAMAGES])
+}
+
+/// Damage to a day, a schedule or a state, by number. It does not look at the
+/// tables, buffers and plan beside them.
+pub fn of_states() -> Vec<&'static Damage> {
+    by_number(&[days::DAMAGES, lent::DAMAGES])
+}
+
+fn by_number(lists: &[&'static [Damage]]) -> Vec<&'static Damage> {
+    let mut damages = lists.iter().flat_map(|list| list.iter()).collect::<Vec<_>>();
+    damages.sort_by_key(|damage| damage.number);
+    damages
 }

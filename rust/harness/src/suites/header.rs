@@ -28,6 +28,10 @@ pub fn run(run: &mut Run) {
         });
     }
     let structs = port_structs();
+    run.case(|_| {
+        let laid_out = port::DECLARATIONS.matches("#[repr(C)]").count();
+        wanted(laid_out, structs.len(), || "structs of the port laid out as in C".to_owned())
+    });
     for (name, fields) in header_structs() {
         run.case(|_| {
             let own = structs.get(&rust_type(&name)).cloned().unwrap_or_default();

@@ -11,6 +11,7 @@ pub mod negation;
 mod reading;
 mod records;
 mod sample;
+mod state;
 
 pub type Suite = (&'static str, fn(&mut Run));
 
@@ -25,4 +26,6 @@ pub const SUITES: &[Suite] = &[
     ("records", records::run),
     ("reading", reading::run),
     ("generator", generator::run),
+    ("state", state::run),
+    ("state_refusals", state::refusals::run),
 ];

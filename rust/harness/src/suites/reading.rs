@@ -27,7 +27,8 @@ pub fn run(run: &mut Run) {
 fn one_input(random: &mut Random, features: &mut Features) -> Outcome {
     let input = sound_input(random);
     wanted(faults(&input.handed()), Vec::new(), || format!("{input:?}"))?;
-    for damage in damage::all() {
+    let damages = damage::all();
+    for &damage in &damages {
         let mut damaged = input.clone();
         let is_done = (damage.apply)(random, &mut damaged).is_some();
         features.look(damage.name, is_done);
@@ -35,7 +36,6 @@ fn one_input(random: &mut Random, features: &mut Features) -> Outcome {
             gives(&damaged, damage.number, &[damage])?;
         }
     }
-    let damages = damage::all().collect::<Vec<_>>();
     for _ in 0..PAIRS {
         let (first, second) = (random.pick(&damages), random.pick(&damages));
         two_faults(random, features, &input, first, second)?;

@@ -1,18 +1,25 @@
 //! The sample day of document 01: what the paper says of it, and of scores,
 //! holds of the Rust and, as far as it runs, of the port.
 use crate::answers::{self, Pair};
+use crate::boundary;
 use crate::bridge;
 use crate::constraint::{Constraint, kind, target};
-use crate::day::{Day, sample_day};
+use crate::day::{CHOICES, Day, sample_day};
 use crate::reading;
 use crate::run::{Run, wanted};
+use crate::state::LISTS;
 use oracle::{Ask, Outcome, Told};
+use port::Scheduling;
 
 const SCHEDULE: [Option<usize>; 3] = [Some(0), Some(0), Some(1)];
+/// Choice 0 moved to slot 1.
+const MOVED: [Option<usize>; 3] = [Some(1), Some(0), Some(1)];
 
 pub fn run(run: &mut Run) {
     scores(run);
     states(run);
+    port_states(run);
+    limits(run);
     models(run);
     plans(run);
     searches(run);
@@ -38,13 +45,52 @@ fn states(run: &mut Run) {
     run.case(|_| {
         let mut solver = problem.solver();
         let first = solver.prepare(&SCHEDULE);
-        let moved = [Some(1), Some(0), Some(1)];
-        let carried = solver.prepare(&moved);
-        let afresh = problem.solver().prepare(&moved);
+        let carried = solver.prepare(&MOVED);
+        let afresh = problem.solver().prepare(&MOVED);
         let found = (first.covered, carried.lists, carried.covered, afresh.lists);
         let lists = (vec![vec![1], vec![2, 0]], vec![vec![1], vec![0, 2]]);
         wanted(found, (vec![1, 2], lists.0, vec![0, 3], lists.1), || "the states".to_owned())
     });
+}
+
+fn port_states(run: &mut Run) {
+    run.case(|random| {
+        let day = boundary::day(random, &sample_day());
+        let schedule = |slots| Scheduling { entries: boundary::entries(slots) };
+        let (mut lists, mut afresh) = ([0xEE; LISTS], [0xEE; LISTS]);
+        let first = port::build(&day, schedule(&SCHEDULE), &mut lists);
+        let carried = port::update(&day, &first.state, schedule(&MOVED), &mut lists);
+        let fresh = port::build(&day, schedule(&MOVED), &mut afresh);
+        let list = |lists: &[u8], slot| {
+            let list = port::slot_list(&day, &carried.state, lists, slot);
+            lists[list.start..][..list.length].to_vec()
+        };
+        let orders = [&lists, &afresh].map(|lists| [0, 1].map(|slot| list(lists, slot)));
+        let covered = [first, carried, fresh].map(|answer| answer.state.covered[..2].to_vec());
+        let wanted_orders = [[vec![1], vec![2, 0]], [vec![1], vec![0, 2]]];
+        let wanted_covered = [vec![1, 2], vec![0, 3], vec![0, 3]];
+        wanted((orders, covered), (wanted_orders, wanted_covered), || "the states".to_owned())
+    });
+}
+
+/// The most that a day may have passes, and one more is refused.
+fn limits(run: &mut Run) {
+    let most = || Day { max_preference: 255, ..Day::bare(64, 32, 8) };
+    let days = [
+        (most(), 0),
+        (Day { choosers: 65, ..most() }, 1),
+        (Day { choices: 33, ..most() }, 1),
+        (Day { slots: 9, ..most() }, 1),
+        (Day { max_preference: 256, ..most() }, 4),
+    ];
+    for (day, number) in days {
+        run.case(|random| {
+            let none = Scheduling { entries: [0; CHOICES] };
+            let own = boundary::day(random, &day);
+            let found = port::build(&own, none, &mut [0; LISTS]).number;
+            wanted(found, number, || format!("{day:?}"))
+        });
+    }
 }
 
 fn models(run: &mut Run) {

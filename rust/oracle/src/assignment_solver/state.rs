@@ -25,6 +25,15 @@ impl From<&AssignmentScheduleState> for State {
     }
 }
 
+/// A schedule state as the original keeps it.
+pub struct Carried(AssignmentScheduleState);
+
+impl Carried {
+    pub fn state(&self) -> State {
+        State::from(&self.0)
+    }
+}
+
 /// The original solver, which carries its state from schedule to schedule.
 pub struct Solver<'a>(pub(super) AssignmentSolver<'a>);
 
@@ -41,7 +50,18 @@ impl Solver<'_> {
         State::from(&self.0.prepare_schedule_state(&scheduling))
     }
 
-    pub(super) fn scheduling(&self, schedule: &Schedule) -> Scheduling {
+    /// `build_schedule_state_from_scratch`.
+    pub fn build(&self, scheduling: &Scheduling) -> Carried {
+        Carried(self.0.build_schedule_state_from_scratch(scheduling))
+    }
+
+    /// `update_schedule_state`.
+    pub fn update(&self, previous: &Carried, scheduling: &Scheduling) -> Carried {
+        Carried(self.0.update_schedule_state(&previous.0, scheduling))
+    }
+
+    /// The schedule as the original keeps it.
+    pub fn scheduling(&self, schedule: &Schedule) -> Scheduling {
         Scheduling::with_data(&self.0.problem.input_data, schedule.to_vec())
     }
 

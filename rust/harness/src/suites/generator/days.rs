@@ -30,6 +30,7 @@ fn look_at_choices(features: &mut Features, day: &Day) {
     features.look("an optional mark", day.optional.contains(&true));
     features.look("no optional mark", day.optional.contains(&false));
     features.look("min 0", day.mins.contains(&0));
+    features.look("min 1,000", day.mins.contains(&MOST_SEATS));
     features.look("max 0", day.maxs.contains(&0));
     features.look("max 1,000", day.maxs.contains(&MOST_SEATS));
     let mut seats = day.mins.iter().zip(&day.maxs);

@@ -8,7 +8,7 @@ mod searches;
 mod states;
 
 use crate::bridge;
-use crate::day::{Day, Size, random_day};
+use crate::day::{Day, Size, random_day, random_size};
 use crate::features::Features;
 use crate::random::Random;
 use crate::run::{Outcome, Run};
@@ -45,11 +45,7 @@ pub fn run(run: &mut Run) {
 }
 
 fn one_day(random: &mut Random, features: &mut Features) -> Outcome {
-    let size = match random.below(10) {
-        0..6 => Size::Small,
-        6..9 => Size::Middle,
-        _ => Size::Full,
-    };
+    let size = random_size(random);
     let day = random_day(random, size);
     days::look(features, &day);
     let problem = bridge::problem(&day);

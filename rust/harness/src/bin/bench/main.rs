@@ -1,6 +1,8 @@
 //! Times the port beside the Rust and prints a table.
 #![forbid(unsafe_code)]
 
+mod states;
+
 use harness::answers::{self, Pair};
 use harness::bridge;
 use harness::constraint::Constraint;
@@ -12,14 +14,21 @@ use std::time::Instant;
 
 /// Inputs of a call; every round goes once through them.
 const INPUTS: usize = 4_096;
+/// As many of a call on a full-size day. An even number, since some calls go
+/// back and forth.
+const DAY_INPUTS: usize = 256;
 /// Rounds, of which the median counts.
 const ROUNDS: usize = 101;
 
 /// Times one round: nanoseconds a call.
-type Timer = Box<dyn Fn() -> f64>;
+type Timer = Box<dyn FnMut() -> f64>;
 
-/// Makes the inputs of a call, and timers of the port and of the Rust over them.
-type Row = fn(&mut Random) -> (Timer, Timer);
+/// Timers of the port and, if it has such a call, of the Rust, over the same
+/// inputs.
+type Timers = (Timer, Option<Timer>);
+
+/// Makes the inputs of a call and the timers over them.
+type Row = fn(&mut Random) -> Timers;
 
 const ROWS: &[(&str, Row)] = &[
     ("compare, finite scores", compare_finite),
@@ -27,23 +36,39 @@ const ROWS: &[(&str, Row)] = &[
     ("best of 64", best_of::<64>),
     ("best of 8", best_of::<8>),
     ("negation", negation),
+    ("build", states::build::<0>),
+    ("build, 32 + 32 constraints", states::build::<32>),
+    ("update, one choice moved", states::update_one::<0>),
+    ("update, one choice moved, 32 + 32", states::update_one::<32>),
+    ("update, all choices moved", states::update_all::<0>),
+    ("update, all choices moved, 32 + 32", states::update_all::<32>),
+    ("slot_list", states::slot_list::<0>),
+    ("slot_list, 32 + 32 constraints", states::slot_list::<32>),
 ];
 
 fn main() {
     println!("Both get the same inputs, made beforehand in the form that each takes: {INPUTS} of");
-    println!("them in a round, port and Rust in turn, the median of {ROUNDS} rounds. The port");
-    println!("tests its input and is called through its exported entries.");
-    println!("{:<26}{:>10}{:>10}{:>8}", "call", "port ns", "Rust ns", "ratio");
+    println!(
+        "them in a round, {DAY_INPUTS} of calls on a full-size day, port and Rust in turn, the"
+    );
+    println!("median of {ROUNDS} rounds. The port tests its input and is called through its");
+    println!("exported entries.");
+    println!("{:<36}{:>10}{:>10}{:>8}", "call", "port ns", "Rust ns", "ratio");
     for (call, timers) in ROWS {
         let mut random = Random::of_case(1, call, 0);
-        let (port, rust) = timers(&mut random);
+        let (mut port, mut rust) = timers(&mut random);
         let (mut port_times, mut rust_times) = (Vec::new(), Vec::new());
         for _ in 0..ROUNDS {
             port_times.push(port());
-            rust_times.push(rust());
+            rust_times.extend(rust.as_mut().map(|rust| rust()));
         }
-        let (port, rust) = (median(port_times), median(rust_times));
-        println!("{call:<26}{port:>10.1}{rust:>10.1}{:>8.2}", port / rust);
+        let port = median(port_times);
+        if rust.is_some() {
+            let rust = median(rust_times);
+            println!("{call:<36}{port:>10.1}{rust:>10.1}{:>8.2}", port / rust);
+        } else {
+            println!("{call:<36}{port:>10.1}{:>10}{:>8}", "-", "-");
+        }
     }
 }
 
@@ -52,7 +77,7 @@ fn median(mut times: Vec<f64>) -> f64 {
     times[times.len() / 2]
 }
 
-fn timer<I: 'static, O>(inputs: Vec<I>, call: impl Fn(&I) -> O + 'static) -> Timer {
+fn timer<I: 'static, O>(inputs: Vec<I>, mut call: impl FnMut(&I) -> O + 'static) -> Timer {
     Box::new(move || {
         let start = Instant::now();
         for input in &inputs {
@@ -62,30 +87,30 @@ fn timer<I: 'static, O>(inputs: Vec<I>, call: impl Fn(&I) -> O + 'static) -> Tim
     })
 }
 
-fn compare_finite(random: &mut Random) -> (Timer, Timer) {
+fn compare_finite(random: &mut Random) -> Timers {
     compare((0..INPUTS).map(|_| (random_finite(random), random_finite(random))).collect())
 }
 
-fn compare_special(random: &mut Random) -> (Timer, Timer) {
+fn compare_special(random: &mut Random) -> Timers {
     let mut float = || f32::from_bits(random.pick(&SPECIAL));
     compare((0..INPUTS).map(|_| ((float(), float()), (float(), float()))).collect())
 }
 
-fn compare(pairs: Vec<(Pair, Pair)>) -> (Timer, Timer) {
+fn compare(pairs: Vec<(Pair, Pair)>) -> Timers {
     let port = timer(pairs.clone(), |&(left, right)| port::compare(left, right));
-    (port, timer(pairs, |&(left, right)| answers::compare(left, right)))
+    (port, Some(timer(pairs, |&(left, right)| answers::compare(left, right))))
 }
 
-fn best_of<const LENGTH: usize>(random: &mut Random) -> (Timer, Timer) {
+fn best_of<const LENGTH: usize>(random: &mut Random) -> Timers {
     let list = |_| (0..LENGTH).map(|_| random_finite(random)).collect::<Vec<_>>();
     let lists = (0..INPUTS).map(list).collect::<Vec<_>>();
     let flat = |list: &Vec<Pair>| list.iter().flat_map(|&(a, b)| [a, b]).collect::<Vec<_>>();
     let port = timer(lists.iter().map(flat).collect(), |list| port::best(list, LENGTH));
-    (port, timer(lists, |list| answers::best(list)))
+    (port, Some(timer(lists, |list| answers::best(list))))
 }
 
 /// Constraints that the Rust can negate.
-fn negation(random: &mut Random) -> (Timer, Timer) {
+fn negation(random: &mut Random) -> Timers {
     let mut constraints = Vec::new();
     while constraints.len() < INPUTS {
         let (target_case, target) = random.pick(&TARGETS);
@@ -97,5 +122,6 @@ fn negation(random: &mut Random) -> (Timer, Timer) {
         }
     }
     let own = constraints.iter().copied().map(bridge::constraint).collect();
-    (timer(constraints, |&one| port::negation(one)), timer(own, |one| one.negation()))
+    let port = timer(constraints, |&one| port::negation(one));
+    (port, Some(timer(own, |one| one.negation())))
 }

@@ -1,0 +1,37 @@
+use mathlib.Core.Path.{_≡_, sym}
+use Prim.Native.Nat.{_≤_, _-_}
+use native.Mathlib.Omega.{arith}
+use borrow.Author.Needs.{needs}
+use Rattle.counting.specs.Fold.{anyTo, fold-none, fold-more}
+use Rattle.counting.specs.Tests.{faultBelow, someBelow}
+use Rattle.input_data.specs.Checks.{badMember}
+use Rattle.input_data.proofs.checks.bad_members.Statement.{statement}
+use Rattle.input_data.proofs.checks.bad_members.Tie as tie
+
+abbrev Inv-loop : tie.InvT-loop
+Inv-loop choices count members most bad₀ i₀ bad i = (i ≤ 32) × (bad ≡ anyTo i (faultBelow count (badMember choices members)))
+
+abbrev μ-loop : tie.MeasureT-loop
+μ-loop choices count members most bad₀ i₀ bad i = 32 - i
+
+loop-again : tie.Need-loop-again Inv-loop μ-loop
+loop-again c = (search needs, simp (fold-more, c .bad-member .ensures, c .before .before .before .loop .inv .1))
+
+returns : tie.Need-returns Inv-loop μ-loop
+unfolding someBelow
+returns c = let e : c .before .loop .i ≡ 32 = omega arith in rw (c .before .loop .inv .1, e)
+
+pub bad-members-spec : {M : Type 1} → statement M
+bad-members-spec =
+    tie.close
+    (tie.spec
+    Inv-loop
+    μ-loop
+    (λ c. (search needs, sym (fold-none _ _ _)))
+    (λ c. search needs)
+    (λ c. search needs)
+    (λ c κs. search needs)
+    (λ c. search needs)
+    (λ c. search needs)
+    loop-again
+    returns)

@@ -1,0 +1,174 @@
+-- The proof of Agreement.antt. Assumes nothing.
+use Prim.Native.Nat.{ℕ, _+_, _*_, _<_, _≤_, _/_, _%_}
+use mathlib.Core.Path.{_≡_, refl, sym, ap, _∙_}
+use mathlib.Core.Bool.{Bool, true, false, cond, not, _&&_, _||_, or-false}
+use mathlib.Core.List.{List, [], _∷_, _++_}
+use native.Mathlib.Nat.{div-add-mod'}
+use native.Mathlib.Omega.{arith}
+use lib.Dec.{eqb, ltb}
+use lib.ListN.{length, getD}
+use borrow.Author.Tests.{eq-eqb, eqb-true, le-ltb, lt-ltb}
+use Rattle.counting.specs.Fold.{gate, anyTo, tableTo, fold-ext}
+use Rattle.counting.specs.Holds.{isOf, Holds, holds-in, holds-has}
+use Rattle.counting.specs.Lists.{table-at}
+use Rattle.counting.specs.Tests.{bool-cases, lt-cases, eq-cases, never, each-none, one-passes, each-below}
+use Rattle.input_data.specs.Accepted.{Accepted, Past, number-accepted}
+use Rattle.input_data.specs.Checks.{firstOf}
+use Rattle.input_data.specs.Lengths.{fullDay, listsLength}
+use Rattle.input_data.specs.declared.InputData.{InputData}
+use Rattle.scheduling.specs.Schedule.{entryAt, kept, keptAt, badEntryAt}
+use Rattle.scheduling.specs.declared.Scheduling.{Scheduling}
+use Rattle.slot_lists.specs.Held.{Held, member, misheld, not-misheld, held, held-after, held-nowhere}
+use Rattle.slot_lists.specs.Lists.{isListed}
+use Rattle.slot_lists.specs.Sums.{nowhere, one, weighed}
+use Rattle.slot_lists.specs.Walk.{carried, carried-length}
+use Rattle.schedule_state.specs.Agreement.{Call, numberOf, Carried, first, updated, after, run, Fed, isIn, Agree, AsFresh, CarriedAgrees}
+use Rattle.schedule_state.specs.Blocks.{cell, cell-in}
+use Rattle.schedule_state.specs.Calls.{besideLists, outside, buildNumber, builtState, builtLists, updateNumber, updatedState, updatedLists, slotListLength}
+use Rattle.schedule_state.specs.Good.{Ready, full-within, choices-most, slots-most, choosers-most, part-in, kept-fits}
+use Rattle.schedule_state.specs.Numbers.{build-ready, build-inside, UpdateAccepted, update-accepted}
+use Rattle.schedule_state.specs.State.{keptOf, stateOf, coveredAt, blockedAt, blockedCell, miscounted, miscountedAt, miscountedIn, misblocked, misblockedRow, misblockedAt, unlike, inconsistent}
+use Rattle.schedule_state.specs.declared.AssignmentScheduleState.{AssignmentScheduleState}
+
+-- a schedule that was handed back is handed back as it is
+gate-twice : (b : Bool) (x : ℕ) → gate b (gate b x) ≡ gate b x
+gate-twice true x = refl
+gate-twice false x = refl
+
+kept-kept : (n : ℕ) (sch : List ℕ) → kept n (kept n sch) ≡ kept n sch
+kept-kept n sch = fold-ext _++_ [] 32 (λ k. keptAt n (kept n sch) k ∷ []) (λ k. keptAt n sch k ∷ [])
+    (λ k h. ap (λ v. v ∷ []) (ap (λ v. gate (ltb k n) v) (table-at 32 (keptAt n sch) 0 k h) ∙ gate-twice (ltb k n) (entryAt sch k)))
+
+-- a set of choices is the members that its list holds
+holds-any : {n : ℕ} {x : ℕ → ℕ} {mem : ℕ → Bool} → Holds n x mem → (k : ℕ) → anyTo n (isOf x k) ≡ mem k
+holds-any {n = n} {x = x} {mem = mem} h k = bool-cases (mem k)
+    (λ e. let r = holds-has h k e in one-passes n (isOf x k) (r .0) (r .1) (eq-eqb (x (r .0)) k (r .2)) ∙ sym e)
+    (λ e. each-none n (isOf x k) (λ j l. bool-cases (isOf x k j) (λ t. never (sym (holds-in h j l) ∙ ap mem (eqb-true (x j) k t) ∙ e)) (λ t. t)) ∙ sym e)
+
+unlike-same : (b : Bool) → unlike b b ≡ false
+unlike-same true = refl
+unlike-same false = refl
+
+cell-div : (c k : ℕ) → k < 32 → cell c k / 32 ≡ c
+cell-div c k h = omega (arith, div-add-mod' (cell c k) 32)
+
+cell-mod : (c k : ℕ) → k < 32 → cell c k % 32 ≡ k
+cell-mod c k h = omega (arith, div-add-mod' (cell c k) 32)
+
+-- what is carried is the state of the last accepted schedule, with lists that hold that schedule
+record Kept (d : InputData) (x : Carried) : Type 0 where
+  ready : Ready fullDay d (length (x .lists))
+  inside : outside d (x .schedule) ≡ false
+  state : x .state ≡ stateOf d (keptOf d (x .schedule))
+  lists : Held 32 (entryAt (keptOf d (x .schedule))) (d .choices) (d .slots) (x .lists)
+
+module _ (d : InputData) (sch : Scheduling) {size : ℕ} (r : Ready fullDay d size) (inside : outside d sch ≡ false) where
+  abbrev e : List ℕ
+  e = keptOf d sch
+
+  -- the state of a schedule has that schedule
+  own-schedule : keptOf d (stateOf d e .schedule) ≡ e
+  own-schedule = kept-kept (d .choices) (sch .entries)
+
+  own-inside : outside d (stateOf d e .schedule) ≡ false
+  own-inside = each-below 32 (d .choices) (badEntryAt (d .slots) e) (λ k h. le-ltb (d .slots) (entryAt e k) (kept-fits r sch inside k h))
+
+  own-counts : miscounted d e (stateOf d e .covered) ≡ false
+  unfolding miscountedIn
+  own-counts = each-none (d .slots) (miscountedAt (coveredAt d e) (tableTo 8 (coveredAt d e)))
+      (λ s h. ap not (eq-eqb (getD (tableTo 8 (coveredAt d e)) s 0) (coveredAt d e s) (table-at 8 (coveredAt d e) 0 s (omega (arith, slots-most r)))))
+
+  own-blocks : misblocked (blockedAt d e) (d .choosers) (d .choices) (stateOf d e .blocks) ≡ false
+  unfolding misblocked
+  own-blocks = each-none (d .choosers) (misblockedRow (blockedAt d e) (d .choices) (tableTo 2048 (blockedCell d e)))
+      (λ c h. each-none (d .choices) (misblockedAt (blockedAt d e) (tableTo 2048 (blockedCell d e)) c)
+      (λ k g. let m : k < 32 = omega (arith, choices-most r) in
+      rw (table-at 2048 (blockedCell d e) false (cell c k) (cell-in c k (omega (arith, choosers-most r)) m), cell-div c k m, cell-mod c k m) (unlike-same (blockedAt d e c k))))
+
+  -- so that 12 does not apply to it, with lists that hold the schedule
+  consistent : {bytes : List ℕ} → Held 32 (entryAt e) (d .choices) (d .slots) bytes → inconsistent fullDay d (stateOf d e) bytes ≡ false
+  consistent {bytes = bytes} h = rw (own-schedule, not-misheld 32 (entryAt e) (d .choices) (d .slots) bytes h, own-counts, own-blocks)
+
+-- ---- along the list
+
+ready-size : {d : InputData} {m n : ℕ} → m ≡ n → Ready fullDay d m → Ready fullDay d n
+ready-size e r = rw e at r
+
+kept-first : (d : InputData) (sch : Scheduling) (lent : List ℕ) → buildNumber fullDay d sch (length lent) ≡ 0 → Kept d (first d sch lent)
+kept-first d sch lent q =
+    let r = build-ready fullDay d sch (length lent) full-within q in
+    let i = build-inside fullDay d sch (length lent) full-within q in
+    record {
+      ready = ready-size (sym (carried-length 32 nowhere (entryAt (keptOf d sch)) (d .choices) lent (d .choices))) r;
+      inside = i;
+      state = refl;
+      lists = held-after (r .day .choices) nowhere (entryAt (keptOf d sch)) (λ k h. omega arith) (kept-fits r sch i) lent (part-in r) (held-nowhere 32 (d .choices) (d .slots) lent);
+    }
+
+-- an accepted update of what was kept
+kept-updated : (d : InputData) (x : Carried) (sch : Scheduling) → Kept d x → updateNumber fullDay d (x .state) sch (x .lists) ≡ 0
+    → Kept d (record { schedule = sch; state = updatedState d sch; lists = updatedLists fullDay d (x .state) sch (x .lists) })
+kept-updated d x sch k q =
+    let a = update-accepted fullDay d (x .state) sch (x .lists) full-within q in
+    let o : keptOf d (x .state .schedule) ≡ keptOf d (x .schedule) = ap (λ st. keptOf d (st .schedule)) (k .state) ∙ own-schedule d (x .schedule) (k .ready) (k .inside) in
+    record {
+      ready = ready-size (sym (carried-length 32 (entryAt (keptOf d (x .state .schedule))) (entryAt (keptOf d sch)) (d .choices) (x .lists) (d .choices))) (k .ready);
+      inside = a .to;
+      state = refl;
+      lists = rw o (held-after (k .ready .day .choices) (entryAt (keptOf d (x .schedule))) (entryAt (keptOf d sch)) (kept-fits (k .ready) (x .schedule) (k .inside)) (kept-fits (k .ready) sch (a .to)) (x .lists) (part-in (k .ready)) (k .lists));
+    }
+
+handed : (d : InputData) (x : Carried) (c : Call) → Kept d x → numberOf c ≡ 0 → (c .day ≡ d) × (c .state ≡ x .state) × (c .lists ≡ x .lists) → Kept d (updated c)
+handed d x c k q (e, s, l) =
+    rw (e, s, l) (kept-updated d x (c .schedule) k (rw (e, s, l) at q))
+
+kept-after : (d : InputData) (x : Carried) (c : Call) → Kept d x → (numberOf c ≡ 0 → (c .day ≡ d) × (c .state ≡ x .state) × (c .lists ≡ x .lists)) → Kept d (after x c)
+kept-after d x c k fed = eq-cases (numberOf c) 0 (λ q t. rw t (handed d x c k q (fed q))) (λ q t. rw t k)
+
+kept-run : (d : InputData) (x : Carried) (calls : List Call) → Kept d x → Fed d x calls → Kept d (run x calls)
+kept-run d x [] k fed = k
+kept-run d x (c ∷ cs) k fed = kept-run d (after x c) cs (kept-after d x c k (fed .0)) (fed .1)
+
+-- ---- what was kept is as fresh
+
+besides : (size : ℕ) → listsLength fullDay ≤ size → Past (besideLists fullDay size false) 0
+besides size h = record { lengths = le-ltb size (listsLength fullDay) h; preferences = refl; levels = refl; costs = refl; asked = refl; none = refl }
+
+module _ (d : InputData) (x : Carried) (k : Kept d x) (buffer : List ℕ) (room : listsLength fullDay ≤ length buffer) where
+  fresh : buildNumber fullDay d (x .schedule) (length buffer) ≡ 0
+  unfolding buildNumber firstOf
+  fresh = number-accepted fullDay d (besideLists fullDay (length buffer) false) (k .ready .day) (besides (length buffer) room) (firstOf (outside d (x .schedule)) 11 0) ∙ rw (k .inside)
+
+  fresh-kept : Kept d (first d (x .schedule) buffer)
+  fresh-kept = kept-first d (x .schedule) buffer fresh
+
+  abbrev own : List ℕ
+  own = keptOf d (x .schedule)
+
+  -- the set of a slot's choices is that of the schedule
+  set-is : (st : AssignmentScheduleState) (bytes : List ℕ) → st ≡ stateOf d own → Held 32 (entryAt own) (d .choices) (d .slots) bytes → (s : ℕ) → s < d .slots → (j : ℕ) → isIn d st bytes s j ≡ member (entryAt own) (d .choices) s j
+  set-is st bytes p h s b j =
+      let o : keptOf d (st .schedule) ≡ own = ap (λ t. keptOf d (t .schedule)) p ∙ own-schedule d (x .schedule) (k .ready) (k .inside) in
+      rw o (holds-any (h .at s b) j)
+
+  same : Agree d (x .state) (x .lists) (builtState d (x .schedule)) (builtLists fullDay d (x .schedule) buffer)
+  same = record {
+    schedule = ap (λ t. t .schedule) (k .state);
+    covered = ap (λ t. t .covered) (k .state);
+    blocks = ap (λ t. t .blocks) (k .state);
+    lists = λ s b j. set-is (x .state) (x .lists) (k .state) (k .lists) s b j ∙ sym (set-is (builtState d (x .schedule)) (builtLists fullDay d (x .schedule) buffer) refl (fresh-kept .lists) s b j);
+  }
+
+  next-number : (sch : Scheduling) → updateNumber fullDay d (x .state) sch (x .lists) ≡ firstOf (outside d sch) 11 0
+  unfolding updateNumber firstOf
+  next-number sch =
+      rw (k .state)
+      (number-accepted fullDay d (besideLists fullDay (length (x .lists)) false) (k .ready .day) (besides (length (x .lists)) (k .ready .room)) _
+      ∙ rw (own-inside d (x .schedule) (k .ready) (k .inside), consistent d (x .schedule) (k .ready) (k .inside) (k .lists), or-false (outside d sch)))
+
+-- what is carried agrees with a fresh build
+pub carried-agrees : CarriedAgrees
+carried-agrees d sch lent q calls fed buffer room =
+    let x = run (first d sch lent) calls in
+    let k = kept-run d (first d sch lent) calls (kept-first d sch lent q) fed in
+    record { accepted = fresh d x k buffer room; agree = same d x k buffer room; next = next-number d x k buffer room }

@@ -1,0 +1,95 @@
+// The list of a slot, as a part of the lent buffer.
+use crate::AssignmentScheduleState;
+use crate::state::beside;
+use crate::state::full_day;
+use crate::state::is_inconsistent;
+use crate::state::ones;
+use input_data::InputData;
+use input_data::Limits;
+ghost use mathlib.Core.Path.{_≡_};
+ghost use Prim.Native.Nat.{_*_};
+ghost use lib.ListN.{length, take, drop};
+ghost use Rattle.input_data.specs.Lengths.{Within, fullDay};
+ghost use Rattle.scheduling.specs.Schedule.{entryAt};
+ghost use Rattle.slot_lists.specs.Sums.{one, weighed};
+ghost use Rattle.schedule_state.specs.Calls.{slotListNumber, PartOf, HandsBack};
+ghost use Rattle.schedule_state.specs.Good.{Listing};
+
+fn number_within(
+    limits: Limits,
+    day: InputData,
+    state: AssignmentScheduleState,
+    lists: &[u8],
+    slot: usize,
+) -> u32
+    requires { ⌜ Within limits ⌝ }
+    ensures { λ r. ⌜ r ≡ slotListNumber limits day state slot (now (lists .entry)) ⌝ }
+{
+    let asked = day.slots <= slot;
+    let number = input_data::day_number(limits, day, beside(limits, lists.len(), asked), 0);
+    if number != 0 {
+        return number;
+    }
+    if scheduling::bad_slots(day.choices, day.slots, &state.schedule.entries) {
+        return 11;
+    }
+    input_data::first(is_inconsistent(limits, day, state, lists), 12, 0)
+}
+
+// The used front of a slot's part of the buffer.
+fn list_part<'a>(
+    lists: &'a [u8],
+    stride: usize,
+    n: usize,
+    entries: &[u8; 32],
+    slot: usize,
+) -> &'a [u8]
+    requires { ⌜ Listing stride n (now entries) (length (now lists)) slot ⌝ }
+    ensures { λ r. ⌜ PartOf (lists .entry) (stride * slot) (take (weighed one (entryAt (now (entries .entry))) n slot) (drop (stride * slot) (now (lists .entry)))) r ⌝ }
+{
+    let lens = slot_lists::sums(entries, &ones(), n);
+    let a = stride * slot;
+    let e = a + lens[slot] as usize;
+    &lists[a..e]
+}
+
+fn list_within<'a>(
+    limits: Limits,
+    day: InputData,
+    state: AssignmentScheduleState,
+    lists: &'a [u8],
+    slot: usize,
+) -> &'a [u8]
+    requires { ⌜ Within limits ⌝ }
+    ensures { λ r. ⌜ HandsBack limits day state slot (lists .entry) r ⌝ }
+{
+    if number_within(limits, day, state, lists, slot) != 0 {
+        return &lists[0..0];
+    }
+    let entries = scheduling::kept(day.choices, &state.schedule.entries);
+    list_part(lists, limits.choices, day.choices, &entries, slot)
+}
+
+// A slot's list: the used front of its part of the caller's buffer; refused, the empty front of the buffer.
+pub fn slot_list<'a>(
+    day: InputData,
+    state: AssignmentScheduleState,
+    lists: &'a [u8],
+    slot: usize,
+) -> &'a [u8]
+    ensures { λ r. ⌜ HandsBack fullDay day state slot (lists .entry) r ⌝ }
+{
+    list_within(full_day(), day, state, lists, slot)
+}
+
+// The number that goes with it.
+pub fn slot_list_number(
+    day: InputData,
+    state: AssignmentScheduleState,
+    lists: &[u8],
+    slot: usize,
+) -> u32
+    ensures { λ r. ⌜ r ≡ slotListNumber fullDay day state slot (now (lists .entry)) ⌝ }
+{
+    number_within(full_day(), day, state, lists, slot)
+}

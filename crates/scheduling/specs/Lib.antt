@@ -1,0 +1,2 @@
+-- scheduling.rs: schedules and check 11.
+pub mod Schedule

@@ -1,0 +1,65 @@
+-- A schedule by its entries: 0 is none, s + 1 is slot s. Definitions and their laws.
+use Prim.Native.Nat.{ℕ, zero, suc, _-_, _<_, _≤_}
+use mathlib.Core.Path.{_≡_, refl, ap, _∙_}
+use mathlib.Core.Bool.{Bool, false}
+use mathlib.Core.Logic.{_≢_}
+use native.Mathlib.Omega.{arith}
+use mathlib.Core.List.{List}
+use native.Mathlib.Nat.{lt-of-lt-of-le}
+use lib.Dec.{ltb}
+use lib.ListN.{getD}
+use borrow.Author.Tests.{ltb-false, lt-ltb}
+use Rattle.counting.specs.Fold.{gate, tableTo}
+use Rattle.counting.specs.Lists.{table-at}
+use Rattle.counting.specs.Tests.{someBelow, below-each, each-below}
+use Rattle.scheduling.specs.declared.SlotOf.{SlotOf}
+use Rattle.scheduling.specs.declared.SlotOf.the-variants.{None, Slot}
+
+-- the entry of choice k
+abbrev pub entryAt : List ℕ → ℕ → ℕ
+entryAt sch k = getD sch k 0
+
+-- by cases of an entry: what holds for none, and what for a slot
+module _ {ℓ} {A : Type ℓ} where
+  abbrev pub ofEntry : ℕ → A → (ℕ → A) → A
+  ofEntry zero none slot = none
+  ofEntry (suc s) none slot = slot s
+
+  pub of-none : (e : ℕ) (none : A) (slot : ℕ → A) → e ≡ 0 → ofEntry e none slot ≡ none
+  of-none zero none slot q = refl
+  of-none (suc s) none slot q = absurd (omega arith)
+
+  pub of-slot : (e : ℕ) (none : A) (slot : ℕ → A) → e ≢ 0 → ofEntry e none slot ≡ slot (e - 1)
+  of-slot zero none slot q = absurd (q refl)
+  of-slot (suc s) none slot q = ap slot (omega arith)
+
+-- the slot that an entry names, if it names one
+abbrev pub slotOf : List ℕ → ℕ → SlotOf
+slotOf sch k = ofEntry (entryAt sch k) None Slot
+
+-- 11. a slot at or above the day's count, in an entry of the day's choices
+abbrev pub badEntry : ℕ → ℕ → Bool
+badEntry slots e = ltb slots e
+
+abbrev pub badEntryAt : ℕ → List ℕ → ℕ → Bool
+badEntryAt slots sch k = badEntry slots (entryAt sch k)
+
+abbrev pub badSlots : ℕ → ℕ → List ℕ → Bool
+badSlots choices slots sch = someBelow 32 choices (badEntryAt slots sch)
+
+-- an entry as it is handed back: none past the day's choices
+abbrev pub keptAt : ℕ → List ℕ → ℕ → ℕ
+keptAt choices sch k = gate (ltb k choices) (entryAt sch k)
+
+abbrev pub kept : ℕ → List ℕ → List ℕ
+kept choices sch = tableTo 32 (keptAt choices sch)
+
+-- ---- laws
+
+-- where 11 does not apply, each entry names one of the day's slots, or none
+pub entries-fit : (choices slots : ℕ) (sch : List ℕ) → choices ≤ 32 → badSlots choices slots sch ≡ false → (k : ℕ) → k < choices → entryAt sch k ≤ slots
+entries-fit choices slots sch h e k l = ltb-false slots (entryAt sch k) (below-each 32 choices (badEntryAt slots sch) h e k l)
+
+-- what is handed back names the same slots
+pub kept-at : (choices : ℕ) (sch : List ℕ) (k : ℕ) → k < choices → choices ≤ 32 → entryAt (kept choices sch) k ≡ entryAt sch k
+kept-at choices sch k l h = table-at 32 (keptAt choices sch) 0 k (lt-of-lt-of-le l h) ∙ rw (lt-ltb k choices l)

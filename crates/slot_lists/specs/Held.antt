@@ -1,0 +1,307 @@
+-- That the slot lists hold exactly the choices of a schedule, once each: check 12's first part, and that the walk keeps it. Definitions and their laws.
+use Prim.Native.Nat.{ℕ, zero, suc, _+_, _-_, _*_, _<_, _≤_}
+use mathlib.Core.Path.{_≡_, refl, sym, ap, ap₂, _∙_}
+use mathlib.Core.Bool.{Bool, true, false, cond, not, _&&_, _||_, and-true, and-false, or-true, or-false}
+use mathlib.Core.List.{List}
+use mathlib.Core.Logic.{_≢_}
+use native.Mathlib.Nat.{mul-suc, mul-le-mul-left, le-antisymm, le-refl}
+use native.Mathlib.Numerals.{add-one}
+use native.Mathlib.Omega.{arith}
+use lib.Dec.{eqb, ltb}
+use lib.ListN.{length, getD, set, length-set}
+use lib.Seq.{getD-set-same, getD-set-other}
+use borrow.Author.Tests.{eq-eqb, ne-eqb, eqb-true, eqb-false, lt-ltb, le-ltb, ltb-true, not-false}
+use Rattle.counting.specs.Fold.{gate, anyTo, countTo, sumTo, fold-ext}
+use Rattle.counting.specs.Holds.{times, isOf, Holds, holds-ext, holds-push, holds-remove, holds-has, holds-all, holds-none}
+use Rattle.counting.specs.Search.{firstTo, first-most, first-passes, first-found}
+use Rattle.counting.specs.Sums.{sum-at-le, count-le, count-lt}
+use Rattle.counting.specs.Tests.{bool-cases, eq-cases, lt-cases, never, none-each, each-none, one-passes, some-passes, Passes}
+use Rattle.scheduling.specs.Schedule.{ofEntry, entryAt}
+use Rattle.slot_lists.specs.Lists.{listed, isListed, placeOf, leftBy}
+use Rattle.slot_lists.specs.Sums.{Sums, sums-most, inSlot, weighed, one, nowhere, put, put-here, weighed-put, weighed-ext, weighed-nowhere}
+use Rattle.slot_lists.specs.Walk.{midway, midway-here, midway-more, midway-same, midway-first, midway-last, lengthAt, leaves, joins, visit, carried, carried-none, carried-more, carried-length, leaves-length, joins-ext, joined-same}
+
+-- choice k is one of n choices, and the schedule puts it into slot s
+abbrev pub member : (ℕ → ℕ) → ℕ → ℕ → ℕ → Bool
+member f n s k = ltb k n && inSlot f s k
+
+-- each slot's list holds exactly the choices that the schedule puts there, once each
+pub record Held (stride : ℕ) (f : ℕ → ℕ) (n slots : ℕ) (l : List ℕ) : Type 0 where
+  pub at : (s : ℕ) → s < slots → Holds (weighed one f n s) (listed stride l s) (member f n s)
+
+-- how often choice k stands in the list of slot s, which is as long as the schedule has choices there
+abbrev pub occurs : ℕ → (ℕ → ℕ) → ℕ → List ℕ → ℕ → ℕ → ℕ
+occurs stride f n l s k = times (weighed one f n s) (listed stride l s) k
+
+-- 12. some list does not hold exactly the choices of the schedule once each
+abbrev pub wrongAt : ℕ → (ℕ → ℕ) → ℕ → List ℕ → ℕ → ℕ → Bool
+wrongAt stride f n l s k = not (eqb (occurs stride f n l s k) (gate (inSlot f s k) 1))
+
+abbrev pub wrongIn : ℕ → (ℕ → ℕ) → ℕ → List ℕ → ℕ → Bool
+wrongIn stride f n l s = anyTo n (wrongAt stride f n l s)
+
+unfoldable pub misheld : ℕ → (ℕ → ℕ) → ℕ → ℕ → List ℕ → Bool
+misheld stride f n slots l = anyTo slots (wrongIn stride f n l)
+
+-- the same with less looking: some choice is not found in its slot's list
+abbrev pub missing : ℕ → (ℕ → ℕ) → List ℕ → ℕ → ℕ → Bool
+missing stride len l k e = ofEntry e false (λ s. eqb (placeOf stride s (len s) k l) (len s))
+
+abbrev pub lackingAt : ℕ → (ℕ → ℕ) → ℕ → List ℕ → ℕ → Bool
+lackingAt stride f n l k = missing stride (weighed one f n) l k (f k)
+
+unfoldable pub isLacking : ℕ → (ℕ → ℕ) → ℕ → List ℕ → Bool
+isLacking stride f n l = anyTo n (lackingAt stride f n l)
+
+-- what looking asks: the list of the slot that an entry names is in the buffer
+pub record Looks (stride e size : ℕ) (a : List ℕ) : Type 0 where
+  pub small : e ≤ 8
+  pub part : e ≢ 0 → stride * (e - 1) + stride ≤ size
+  pub len : e ≢ 0 → getD a (e - 1) 0 ≤ stride
+
+pub record LooksAll (stride n : ℕ) (entries : List ℕ) (size : ℕ) (a : List ℕ) : Type 0 where
+  pub count : n ≤ 32
+  pub room : n ≤ stride
+  pub small : (k : ℕ) → k < n → entryAt entries k ≤ 8
+  pub part : (k : ℕ) → k < n → entryAt entries k ≢ 0 → stride * (entryAt entries k - 1) + stride ≤ size
+  pub lens : Sums one (entryAt entries) n a
+
+-- ---- laws
+
+member-is : (f : ℕ → ℕ) (n s k : ℕ) → k < n → member f n s k ≡ inSlot f s k
+member-is f n s k l = rw (lt-ltb k n l)
+
+member-out : (f : ℕ → ℕ) (n s k : ℕ) → n ≤ k → member f n s k ≡ false
+member-out f n s k l = rw (le-ltb k n l)
+
+member-count : (f : ℕ → ℕ) (n s : ℕ) → countTo n (member f n s) ≡ weighed one f n s
+member-count f n s = fold-ext _+_ 0 n (λ k. gate (member f n s k) 1) (λ k. gate (inSlot f s k) 1) (λ k l. ap (λ (b : Bool). gate b 1) (member-is f n s k l))
+
+module _ (stride : ℕ) (f : ℕ → ℕ) (n slots : ℕ) (l : List ℕ) where
+  -- where no list is wrong, each holds what it should
+  pub held : misheld stride f n slots l ≡ false → Held stride f n slots l
+  unfolding misheld
+  held e = record {
+    at = λ s b. holds-all (weighed one f n s) n (listed stride l s) (member f n s) (member-count f n s)
+        (λ k c q. once s b k c q) (λ k c. member-out f n s k c);
+  }
+    where
+      once : (s : ℕ) → s < slots → (k : ℕ) → k < n → member f n s k ≡ true → 1 ≤ occurs stride f n l s k
+      once s b k c q =
+          let r : occurs stride f n l s k ≡ gate (inSlot f s k) 1 = eqb-true (occurs stride f n l s k) (gate (inSlot f s k) 1) (not-false _ (none-each n (wrongAt stride f n l s) (none-each slots (wrongIn stride f n l) e s b) k c)) in
+          omega (arith, ap (λ (t : Bool). gate t 1) (sym (member-is f n s k c) ∙ q))
+
+  -- .. and the other way round
+  pub not-misheld : Held stride f n slots l → misheld stride f n slots l ≡ false
+  unfolding misheld
+  not-misheld h = each-none slots (wrongIn stride f n l) (λ s b. each-none n (wrongAt stride f n l s) (λ k c.
+      ap not (eq-eqb (occurs stride f n l s k) (gate (inSlot f s k) 1) (h .at s b .once k ∙ ap (λ (t : Bool). gate t 1) (member-is f n s k c)))))
+
+times-found : (m : ℕ) (x : ℕ → ℕ) (k : ℕ) → firstTo m (isOf x k) < m → 1 ≤ times m x k
+times-found m x k h = omega (arith, sum-at-le m (λ j. gate (isOf x k j) 1) (firstTo m (isOf x k)) h, ap (λ (t : Bool). gate t 1) (first-passes m (isOf x k) h))
+
+module _ (stride : ℕ) (f : ℕ → ℕ) (n slots : ℕ) (l : List ℕ) (fit : (k : ℕ) → k < n → f k ≤ slots) where
+  -- a choice that is not lacking is found in its slot's list
+  found : (k : ℕ) (e : ℕ) → f k ≡ e → lackingAt stride f n l k ≡ false → (s : ℕ) → e ≡ suc s → placeOf stride s (weighed one f n s) k l < weighed one f n s
+  found k zero q h s p = absurd (omega arith)
+  found k (suc t) q h s p =
+      let g : eqb (placeOf stride t (weighed one f n t) k l) (weighed one f n t) ≡ false = rw q at h in
+      let e : t ≡ s = omega arith in
+      rw (← e) (lt-cases (placeOf stride t (weighed one f n t) k l) (weighed one f n t) (λ b z. b)
+      (λ b z. absurd (eqb-false _ _ g (le-antisymm (first-most (weighed one f n t) (isListed stride l t k)) b))))
+
+  lacking-held : isLacking stride f n l ≡ false → Held stride f n slots l
+  unfolding isLacking
+  lacking-held e = record {
+    at = λ s b. holds-all (weighed one f n s) n (listed stride l s) (member f n s) (member-count f n s)
+        (λ k c q. times-found (weighed one f n s) (listed stride l s) k
+        (found k (f k) refl (none-each n (lackingAt stride f n l) e k c) s (eqb-true (f k) (suc s) (sym (member-is f n s k c) ∙ q))))
+        (λ k c. member-out f n s k c);
+  }
+
+  not-lacking : Held stride f n slots l → (k : ℕ) → k < n → (e : ℕ) → f k ≡ e → missing stride (weighed one f n) l k e ≡ false
+  not-lacking h k c zero q = refl
+  not-lacking h k c (suc s) q =
+      let r = holds-has (h .at s (omega (arith, fit k c))) k (member-is f n s k c ∙ eq-eqb (f k) (suc s) q) in
+      ne-eqb (placeOf stride s (weighed one f n s) k l) (weighed one f n s)
+      (λ z. omega (arith, first-found (weighed one f n s) (isListed stride l s k) (r .0) (r .1) (eq-eqb (listed stride l s (r .0)) k (r .2))))
+
+  -- less looking, the same answer
+  pub lacking-is : isLacking stride f n l ≡ misheld stride f n slots l
+  unfolding isLacking
+  lacking-is = bool-cases (misheld stride f n slots l)
+      (λ e. rw e (bool-cases (anyTo n (lackingAt stride f n l)) (λ t. t) (λ t. never (sym e ∙ not-misheld stride f n slots l (lacking-held t)))))
+      (λ e. rw e (each-none n (lackingAt stride f n l) (λ k c. not-lacking (held stride f n slots l e) k c (f k) refl)))
+
+-- ---- the walk keeps it
+
+-- two slots' parts have no byte in common
+apart : (stride s t i j : ℕ) → s ≢ t → i < stride → j < stride → stride * s + i ≢ stride * t + j
+apart stride s t i j d a b e = lt-cases s t
+    (λ l z. omega (arith, mul-le-mul-left stride l, mul-suc stride s))
+    (λ l z. let h : t < s = omega arith in omega (arith, mul-le-mul-left stride h, mul-suc stride t))
+
+module _ {stride : ℕ} {f : ℕ → ℕ} {n slots : ℕ} {l : List ℕ} (room : n ≤ stride) (size : (s : ℕ) → s < slots → stride * s + stride ≤ length l)
+    (h : Held stride f n slots l) (k : ℕ) (c : k < n) where
+  few : (s : ℕ) → weighed one f n s ≤ n
+  few s = count-le n (inSlot f s)
+
+  -- a slot other than t, whose list alone is written, and of whose choices k alone leaves or joins
+  other : (t i v e s : ℕ) → s < slots → s ≢ t → i < stride → f k ≢ suc s → e ≢ suc s → Holds (weighed one (put f k e) n s) (listed stride (set l (stride * t + i) v) s) (member (put f k e) n s)
+  other t i v e s b d a p q =
+      let m : weighed one (put f k e) n s ≡ weighed one f n s = omega (arith, weighed-put one f n s k e c, ap (λ (z : Bool). gate z 1) (ne-eqb (f k) (suc s) p), ap (λ (z : Bool). gate z 1) (ne-eqb e (suc s) q)) in
+      rw m (holds-ext (h .at s b)
+      (λ j x. sym (getD-set-other l (stride * t + i) (stride * s + j) v 0 (apart stride s t j i d (omega (arith, few s)) a)))
+      (λ j. ap (λ (z : Bool). ltb j n && z) (eq-cases j k
+      (λ x y. rw y (rw x (ne-eqb (f k) (suc s) p ∙ sym (ne-eqb e (suc s) q)))) (λ x y. rw y))))
+
+  -- choice k leaves the list of slot t
+  module _ (t : ℕ) (b : t < slots) (e : f k ≡ suc t) where
+    abbrev len : ℕ
+    len = weighed one f n t
+
+    abbrev place : ℕ
+    place = placeOf stride t len k l
+
+    in-list : (j : ℕ) × (j < len) × (listed stride l t j ≡ k)
+    in-list = holds-has (h .at t b) k (member-is f n t k c ∙ eq-eqb (f k) (suc t) e)
+
+    place-in : place < len
+    place-in = first-found len (isListed stride l t k) (in-list .0) (in-list .1) (eq-eqb (listed stride l t (in-list .0)) k (in-list .2))
+
+    place-is : listed stride l t place ≡ k
+    place-is = eqb-true (listed stride l t place) k (first-passes len (isListed stride l t k) place-in)
+
+    abbrev after : List ℕ
+    after = set l (stride * t + place) (listed stride l t (len - 1))
+
+    here : Holds (len - 1) (listed stride after t) (λ j. member f n t j && not (eqb j (listed stride l t place)))
+    here = holds-remove (rw (← whole) at (h .at t b)) (listed stride after t) place (omega (arith, place-in))
+        (getD-set-same l (stride * t + place) (listed stride l t (len - 1)) 0 (omega (arith, size t b, place-in, few t)))
+        (λ j x d. getD-set-other l (stride * t + place) (stride * t + j) (listed stride l t (len - 1)) 0 (λ z. d (omega arith)))
+      where
+        whole : suc (len - 1) ≡ len
+        whole = omega (arith, place-in)
+
+    gone : (j : ℕ) → (member f n t j && not (eqb j (listed stride l t place))) ≡ member (put f k 0) n t j
+    gone j = rw place-is (eq-cases j k
+        (λ x y. rw (y, ne-eqb 0 (suc t) (λ z. omega arith)) (both (ltb j n) (inSlot f t j)))
+        (λ x y. rw y (and-true (ltb j n && inSlot f t j))))
+      where
+        both : (p q : Bool) → (p && q && false) ≡ (p && false)
+        both true true = refl
+        both true false = refl
+        both false q = refl
+
+    left-is : leftBy stride t len k l ≡ after
+    unfolding leftBy
+    left-is = rw (lt-ltb place len place-in)
+
+    pub held-left : Held stride (put f k 0) n slots (leftBy stride t len k l)
+    held-left = rw left-is (record {
+      at = λ s q. eq-cases s t
+          (λ x y. rw x (rw fewer (holds-ext here (λ j z. refl) gone)))
+          (λ x y. other t place (listed stride l t (len - 1)) 0 s q x (omega (arith, place-in, few t)) (λ z. x (omega arith)) (λ z. omega arith));
+    })
+      where
+        fewer : weighed one (put f k 0) n t ≡ len - 1
+        fewer = omega (arith, weighed-put one f n t k 0 c, ap (λ (z : Bool). gate z 1) (eq-eqb (f k) (suc t) e), ap (λ (z : Bool). gate z 1) (ne-eqb 0 (suc t) (λ z. omega arith)))
+
+  -- choice k, which has no slot, joins the list of slot t
+  module _ (t : ℕ) (b : t < slots) (e : f k ≡ 0) where
+    abbrev end : ℕ
+    end = weighed one f n t
+
+    out : inSlot f t k ≡ false
+    out = ne-eqb (f k) (suc t) (λ z. omega arith)
+
+    short : end < n
+    short = count-lt n (inSlot f t) k c out
+
+    abbrev then : List ℕ
+    then = set l (stride * t + end) k
+
+    last : listed stride then t end ≡ k
+    last = getD-set-same l (stride * t + end) k 0 (omega (arith, size t b, short))
+
+    pushed : Holds (suc end) (listed stride then t) (λ j. member f n t j || eqb j (listed stride then t end))
+    pushed = holds-push
+        (holds-ext (h .at t b) (λ j x. sym (getD-set-other l (stride * t + end) (stride * t + j) k 0 (λ z. omega arith))) (λ j. refl))
+        (ap (member f n t) last ∙ member-is f n t k c ∙ out)
+
+    come : (j : ℕ) → (member f n t j || eqb j (listed stride then t end)) ≡ member (put f k (suc t)) n t j
+    come j = rw last (eq-cases j k
+        (λ x y. rw (y, eq-eqb (suc t) (suc t) refl, lt-ltb j n (omega arith)) (or-true (inSlot f t j)))
+        (λ x y. rw y (or-false (ltb j n && inSlot f t j))))
+
+    pub held-joined : Held stride (put f k (suc t)) n slots then
+    held-joined = record {
+      at = λ s q. eq-cases s t
+          (λ x y. rw x (rw more (holds-ext pushed (λ j z. refl) come)))
+          (λ x y. other t end k (suc t) s q x (omega (arith, short)) (λ z. omega arith) (λ z. x (omega arith)));
+    }
+      where
+        more : weighed one (put f k (suc t)) n t ≡ suc end
+        more = omega (arith, weighed-put one f n t k (suc t) c, ap (λ (z : Bool). gate z 1) out, ap (λ (z : Bool). gate z 1) (eq-eqb (suc t) (suc t) refl))
+
+pub held-ext : {stride : ℕ} {f g : ℕ → ℕ} {n slots : ℕ} {l : List ℕ} → ((k : ℕ) → k < n → f k ≡ g k) → Held stride f n slots l → Held stride g n slots l
+held-ext {f = f} {g = g} {n = n} p h = record {
+  at = λ s b. rw (sym (weighed-ext one f g n s p)) (holds-ext (h .at s b) (λ j x. refl)
+      (λ j. lt-cases j n (λ x e. rw e (ap (λ (z : ℕ). eqb z (suc s)) (p j x))) (λ x e. rw e)));
+}
+
+-- an empty schedule is held by any buffer
+pub held-nowhere : (stride n slots : ℕ) (l : List ℕ) → Held stride nowhere n slots l
+held-nowhere stride n slots l = record {
+  at = λ s b. rw (weighed-nowhere one n s) (holds-none (listed stride l s) (member nowhere n s)
+      (λ k. rw (ne-eqb 0 (suc s) (λ z. omega arith)) (and-false (ltb k n))));
+}
+
+module _ {stride n slots : ℕ} (room : n ≤ stride) (old new : ℕ → ℕ) (fo : (k : ℕ) → k < n → old k ≤ slots) (fn : (k : ℕ) → k < n → new k ≤ slots) where
+  module _ {l : List ℕ} (size : (s : ℕ) → s < slots → stride * s + stride ≤ length l) (k : ℕ) (c : k < n) where
+    left-held : {f : ℕ → ℕ} → Held stride f n slots l → (e : ℕ) → f k ≡ e → e ≤ slots → Held stride (put f k 0) n slots (leaves stride e (weighed one f n) k l)
+    left-held h zero q b = held-ext (λ j x. eq-cases j k (λ y z. rw (z, y) q) (λ y z. rw z)) h
+    left-held h (suc t) q b = held-left room size h k c t (omega arith) q
+
+    joined-held : {f : ℕ → ℕ} → Held stride f n slots l → (e : ℕ) → f k ≡ 0 → e ≤ slots → Held stride (put f k e) n slots (joins stride e (weighed one f n) k l)
+    joined-held h zero q b = held-ext (λ j x. eq-cases j k (λ y z. rw (z, y) q) (λ y z. rw z)) h
+    joined-held h (suc t) q b = held-joined room size h k c t (omega arith) q
+
+  moved : {l : List ℕ} → ((s : ℕ) → s < slots → stride * s + stride ≤ length l) → (k : ℕ) → k < n → old k ≢ new k → Held stride (midway old new k) n slots l
+      → Held stride (midway old new (k + 1)) n slots (joins stride (new k) (lengthAt old new n k) k (leaves stride (old k) (lengthAt old new n k) k l))
+  moved {l = l} size k c d h =
+      let a : Held stride (put (midway old new k) k 0) n slots (leaves stride (old k) (lengthAt old new n k) k l) = left-held size k c h (old k) (midway-here old new k) (fo k c) in
+      let size′ : (s : ℕ) → s < slots → stride * s + stride ≤ length (leaves stride (old k) (lengthAt old new n k) k l) = λ s b. rw (leaves-length stride (old k) (lengthAt old new n k) k l) (size s b) in
+      held-ext (λ j x. midway-more old new k j)
+      (rw (joins-ext stride (new k) (lengthAt old new n k) (weighed one (put (midway old new k) k 0) n) k (leaves stride (old k) (lengthAt old new n k) k l) (λ s e. sym (joined-same old new n k s c d e)))
+      (joined-held size′ k c a (new k) (put-here (midway old new k) k 0) (fn k c)))
+
+  held-visit : {l : List ℕ} → ((s : ℕ) → s < slots → stride * s + stride ≤ length l) → (k : ℕ) → k < n → Held stride (midway old new k) n slots l → Held stride (midway old new (k + 1)) n slots (visit stride old new n l k)
+  unfolding visit
+  held-visit size k c h = eq-cases (old k) (new k)
+      (λ e t. rw t (held-ext (λ j x. midway-same old new k j e) h))
+      (λ e t. rw t (moved size k c e h))
+
+  held-carried : (l : List ℕ) → ((s : ℕ) → s < slots → stride * s + stride ≤ length l) → Held stride old n slots l → (i : ℕ) → i ≤ n → Held stride (midway old new i) n slots (carried stride old new n l i)
+  held-carried l size h zero b = rw (carried-none stride old new n l) (held-ext (λ j x. sym (midway-first old new j)) h)
+  held-carried l size h (suc i) b =
+      let g = held-carried l size h i (omega arith) in
+      rw (← add-one i, carried-more stride old new n l i)
+      (held-visit (λ s x. rw (carried-length stride old new n l i) (size s x)) i (omega arith) g)
+
+  -- the walk of all choices carries the lists of the old schedule to those of the new one
+  pub held-after : (l : List ℕ) → ((s : ℕ) → s < slots → stride * s + stride ≤ length l) → Held stride old n slots l → Held stride new n slots (carried stride old new n l n)
+  held-after l size h = held-ext (midway-last old new n) (held-carried l size h n (le-refl n))
+
+-- ---- what the code looks up is the definition
+
+missing-ext : (stride e : ℕ) (len len′ : ℕ → ℕ) (l : List ℕ) (k : ℕ) → ((s : ℕ) → e ≡ suc s → len s ≡ len′ s) → missing stride len l k e ≡ missing stride len′ l k e
+missing-ext stride zero len len′ l k h = refl
+missing-ext stride (suc s) len len′ l k h = ap (λ m. eqb (placeOf stride s m k l) m) (h s refl)
+
+module _ {stride n size : ℕ} {entries a : List ℕ} (h : LooksAll stride n entries size a) (k : ℕ) (c : k < n) where
+  pub looks : Looks stride (entryAt entries k) size a
+  looks = record { small = h .small k c; part = h .part k c; len = λ d. omega (arith, h .room, sums-most (h .lens) 1 (λ j b. omega arith) (entryAt entries k) (h .small k c) d) }
+
+  pub missing-is : (l : List ℕ) → missing stride (entryAt a) l k (entryAt entries k) ≡ lackingAt stride (entryAt entries) n l k
+  missing-is l = missing-ext stride (entryAt entries k) (entryAt a) (weighed one (entryAt entries) n) l k (λ s e. h .lens .at s (omega (arith, h .small k c)))

@@ -1,0 +1,122 @@
+//! From plain data to the structs of the port. What lies past a day's sizes is
+//! not read: it becomes zeros, small numbers that could pass for sound ones, or
+//! anything.
+use crate::constraint::{Constraint, random_assignment, random_scheduling};
+use crate::day::{CHOICES, CHOOSERS, Day, SLOTS};
+use crate::random::Random;
+use crate::schedule::Schedule;
+use crate::state::State;
+use port::{ConstraintList, InputData, ScheduleState, Scheduling};
+use std::array;
+
+/// The day, sound or damaged. Of what a struct has no room for the front is
+/// taken, since the count beside it tells that there is more.
+pub fn day(random: &mut Random, day: &Day) -> InputData {
+    let mut junk = Junk::new(random);
+    InputData {
+        choosers: day.choosers,
+        choices: day.choices,
+        slots: day.slots,
+        max_preference: day.max_preference,
+        mins: filled(&day.mins, || junk.word()),
+        maxs: filled(&day.maxs, || junk.word()),
+        optional: filled(&day.optional, || junk.bit()),
+        scheduling: constraints(&day.scheduling, || junk.constraint(day, random_scheduling)),
+        assignment: constraints(&day.assignment, || junk.constraint(day, random_assignment)),
+        groups: day.group_lengths.len(),
+        lengths: filled(&day.group_lengths, || junk.word()),
+        members: filled(&day.group_members, || junk.word()),
+    }
+}
+
+pub fn schedule(random: &mut Random, day: &Day, schedule: &Schedule) -> Scheduling {
+    let mut junk = Junk::new(random);
+    let mut entries = entries(schedule);
+    entries[day.choices.min(CHOICES)..].fill_with(|| junk.word() as u8);
+    Scheduling { entries }
+}
+
+/// The state without its slot lists, which are lent.
+pub fn state(random: &mut Random, day: &Day, state: &State) -> ScheduleState {
+    let own = ScheduleState {
+        schedule: Scheduling { entries: entries(&state.schedule) },
+        covered: filled(&state.covered, || 0),
+        blocks: filled(&state.blocks, || false),
+    };
+    with_rest(random, day, own)
+}
+
+/// The state with anything past the day's sizes.
+pub fn with_rest(random: &mut Random, day: &Day, mut state: ScheduleState) -> ScheduleState {
+    let (choosers, choices) = (day.choosers.min(CHOOSERS), day.choices.min(CHOICES));
+    let mut junk = Junk::new(random);
+    state.schedule.entries[choices..].fill_with(|| junk.word() as u8);
+    state.covered[day.slots.min(SLOTS)..].fill_with(|| junk.word());
+    for (chooser, row) in state.blocks.chunks_exact_mut(CHOICES).enumerate() {
+        let used = if chooser < choosers { choices } else { 0 };
+        let mut bits = junk.word();
+        for block in &mut row[used..] {
+            *block = bits & 1 == 1;
+            bits >>= 1;
+        }
+    }
+    state
+}
+
+/// 0 for none and s + 1 for slot s.
+pub fn entries(schedule: &[Option<usize>]) -> [u8; CHOICES] {
+    let entry = |slot: usize| u8::try_from(slot).unwrap_or(u8::MAX).saturating_add(1);
+    let entries = schedule.iter().map(|slot| slot.map_or(0, entry)).collect::<Vec<_>>();
+    filled(&entries, || 0)
+}
+
+fn constraints(list: &[Constraint], rest: impl FnMut() -> Constraint) -> ConstraintList {
+    ConstraintList { count: list.len(), entries: filled(list, rest) }
+}
+
+/// The front, and what `rest` gives for as much as there is room.
+fn filled<T: Copy, const N: usize>(front: &[T], mut rest: impl FnMut() -> T) -> [T; N] {
+    array::from_fn(|place| front.get(place).copied().unwrap_or_else(&mut rest))
+}
+
+/// What stands where nothing is read.
+struct Junk<'a> {
+    random: &'a mut Random,
+    /// The bits that may be set.
+    mask: u64,
+}
+
+impl<'a> Junk<'a> {
+    fn new(random: &'a mut Random) -> Self {
+        let mask = random.pick(&[0, 7, u64::MAX]);
+        Self { random, mask }
+    }
+
+    fn word(&mut self) -> u32 {
+        (self.random.bits() & self.mask) as u32
+    }
+
+    fn bit(&mut self) -> bool {
+        self.word() & 1 == 1
+    }
+
+    /// Zeros, or a constraint that would block or be refused if it were read.
+    fn constraint(
+        &mut self,
+        day: &Day,
+        sound: fn(&mut Random, &Day) -> Option<Constraint>,
+    ) -> Constraint {
+        match self.mask {
+            0 => Constraint::default(),
+            7 => sound(self.random, day).unwrap_or_default(),
+            _ => Constraint {
+                kind: self.word(),
+                left: self.word(),
+                target_case: self.word(),
+                target: self.word(),
+                extra_case: self.word(),
+                extra: self.word() as i32,
+            },
+        }
+    }
+}

@@ -1,0 +1,110 @@
+//! The port on its way through a chain of schedules: its state and slot lists,
+//! compared after each call in all that they hold.
+use crate::answers;
+use crate::boundary;
+use crate::day::{CHOICES, Day};
+use crate::lists::{carry, fronts};
+use crate::random::Random;
+use crate::run::{Outcome, same, wanted};
+use crate::schedule::Schedule;
+use crate::state::LISTS;
+use oracle::State;
+use port::guarded::Guarded;
+use port::{ScheduleState, SlotListAnswer, StateAnswer};
+
+pub struct Walk<'a> {
+    pub day: &'a Day,
+    /// The schedule that the walk stands at, for the day's choices.
+    pub schedule: Schedule,
+    /// As the port gave it.
+    pub state: ScheduleState,
+    /// As the port left it.
+    pub lists: Guarded<u8>,
+    /// What must stand in the lists by the model.
+    pub bytes: Vec<u8>,
+}
+
+impl<'a> Walk<'a> {
+    /// A walk before its first build.
+    pub fn new(random: &mut Random, day: &'a Day) -> Self {
+        let length = LISTS + random.pick(&[0, 0, 1, 32, 300]);
+        let lists = random_buffer(random, length);
+        let bytes = lists.now().to_vec();
+        let state = answers::refused_state(0).state;
+        Self { day, schedule: vec![None; day.choices], state, lists, bytes }
+    }
+
+    /// A fresh build, whatever stands in the buffer.
+    pub fn build(&mut self, random: &mut Random, schedule: &Schedule, rust: &State) -> Outcome {
+        self.schedule.fill(None);
+        let before = self.bytes.clone();
+        carry(&mut self.bytes, &self.schedule, &rust.schedule);
+        let day = boundary::day(random, self.day);
+        let schedule = boundary::schedule(random, self.day, schedule);
+        let answer = port::build(&day, schedule, self.lists.lend());
+        self.takes("build", answer, rust, &before)
+    }
+
+    pub fn update(&mut self, random: &mut Random, schedule: &Schedule, rust: &State) -> Outcome {
+        let before = self.bytes.clone();
+        carry(&mut self.bytes, &self.schedule, &rust.schedule);
+        let day = boundary::day(random, self.day);
+        let state = self.handed_on(random);
+        let schedule = boundary::schedule(random, self.day, schedule);
+        let answer = port::update(&day, &state, schedule, self.lists.lend());
+        self.takes("update", answer, rust, &before)
+    }
+
+    /// Asks for the list of each slot.
+    pub fn ask(&mut self, random: &mut Random, rust: &State) -> Outcome {
+        let day = boundary::day(random, self.day);
+        let state = self.handed_on(random);
+        for (slot, list) in rust.lists.iter().enumerate() {
+            let answer = port::slot_list(&day, &state, self.lists.lend(), slot);
+            let input =
+                || format!("slot_list {slot} {:?} {:?} {:?}", self.day, self.state, self.bytes);
+            let own = SlotListAnswer { number: 0, start: slot * CHOICES, length: list.len() };
+            same(answer, own, input)?;
+            let part = &self.lists.now()[answer.start..][..answer.length];
+            let part = part.iter().map(|&choice| choice.into()).collect::<Vec<usize>>();
+            same(&part, list, input)?;
+            wanted(self.lists.differs_from(&self.bytes), None, input)?;
+        }
+        Ok(())
+    }
+
+    /// The state as it was given, or with anything past the day's sizes.
+    fn handed_on(&self, random: &mut Random) -> ScheduleState {
+        if random.chance(50) {
+            self.state
+        } else {
+            boundary::with_rest(random, self.day, self.state)
+        }
+    }
+
+    /// Compares all that a call gave and left, and goes on from there.
+    fn takes(&mut self, call: &str, answer: StateAnswer, rust: &State, before: &[u8]) -> Outcome {
+        let slots = self.day.slots;
+        let input = || {
+            let (old, new) = (&self.schedule, &rust.schedule);
+            format!("{call} {:?} from {old:?} to {new:?} with {before:?}", self.day)
+        };
+        same(answer, answers::state(self.day, rust), input)?;
+        wanted(&fronts(&self.bytes, &rust.schedule, slots), &rust.lists, input)?;
+        let found = (self.lists.differs_from(&self.bytes), self.lists.now());
+        wanted(found, (None, &self.bytes[..]), input)?;
+        self.schedule.clone_from(&rust.schedule);
+        self.state = answer.state;
+        Ok(())
+    }
+}
+
+/// A buffer of the guards' pattern, of bytes that could be choices, or of any.
+fn random_buffer(random: &mut Random, length: usize) -> Guarded<u8> {
+    let most = random.pick(&[0, 33, 256]);
+    if most == 0 {
+        return Guarded::patterned(length);
+    }
+    let bytes = (0..length).map(|_| random.below(most) as u8).collect::<Vec<_>>();
+    Guarded::holding(&bytes)
+}
