@@ -4,4 +4,5 @@ pub mod Lengths
 pub mod Operands
 pub mod Checks
 pub mod Accepted
+pub mod Places
 pub mod Fits

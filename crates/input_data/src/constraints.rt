@@ -4,7 +4,7 @@ use crate::ConstraintNumbers;
 use constraint::Constraint;
 use constraint::ConstraintType;
 ghost use mathlib.Core.Path.{_≡_};
-ghost use mathlib.Core.Bool.{_&&_};
+ghost use Prim.Native.Nat.{min};
 ghost use Rattle.input_data.specs.Day.{constraintOfNumbers};
 ghost use Rattle.input_data.specs.Operands.{leftCase, rightCase, readCase, isOneOf, leftFits, rightFits, extraFits, badOperand};
 ghost use Rattle.input_data.specs.Checks.{badKind, badKinds, badOperands};
@@ -31,16 +31,26 @@ fn bad_kind(least: u32, most: u32, kind: u32) -> bool
     (kind < least) | (most < kind)
 }
 
+// How many entries of a list are looked at: as many as it counts, and no more than it has.
+fn places(count: usize) -> usize
+    ensures { λ r. ⌜ r ≡ min count 32 ⌝ }
+{
+    if count < 32 {
+        return count;
+    }
+    32
+}
+
 // 8.
 pub fn bad_kinds(least: u32, most: u32, list: ConstraintList) -> bool
     ensures { λ r. ⌜ r ≡ badKinds least most list ⌝ }
 {
-    let count = list.count;
+    let n = places(list.count);
     let mut bad = false;
     let mut i = 0;
-    while i < 32 {
+    while i < n {
         let c = list.entries[i];
-        bad = bad | ((i < count) & bad_kind(least, most, c.kind));
+        bad = bad | bad_kind(least, most, c.kind);
         i += 1;
     }
     bad
@@ -164,32 +174,16 @@ fn bad_operand(choosers: usize, choices: usize, slots: usize, c: Constraint) -> 
         & extra_fits(c))
 }
 
-// 9, of an entry that counts. To look into no other is what makes a short list quick.
-fn operand_fault(
-    counts: bool,
-    choosers: usize,
-    choices: usize,
-    slots: usize,
-    c: ConstraintNumbers,
-) -> bool
-    ensures { λ r. ⌜ r ≡ (counts && badOperand choosers choices slots (constraintOfNumbers c)) ⌝ }
-{
-    if counts {
-        return bad_operand(choosers, choices, slots, c.constraint());
-    }
-    false
-}
-
 // 9.
 pub fn bad_operands(choosers: usize, choices: usize, slots: usize, list: ConstraintList) -> bool
     ensures { λ r. ⌜ r ≡ badOperands choosers choices slots list ⌝ }
 {
-    let count = list.count;
+    let n = places(list.count);
     let mut bad = false;
     let mut i = 0;
-    while i < 32 {
+    while i < n {
         let c = list.entries[i];
-        bad = bad | operand_fault(i < count, choosers, choices, slots, c);
+        bad = bad | bad_operand(choosers, choices, slots, c.constraint());
         i += 1;
     }
     bad

@@ -7,7 +7,7 @@ use mathlib.Core.List.{List}
 use native.Mathlib.Nat.{div-add-mod'}
 use native.Mathlib.Omega.{arith}
 use lib.Dec.{eqb, ltb}
-use lib.ListN.{length, getD, set, length-set}
+use lib.ListN.{length, getD, set, replicate, length-set, getD-replicate}
 use lib.Seq.{ext-getD, getD-set-same, getD-set-other}
 use borrow.Author.Tests.{eq-eqb, ne-eqb, lt-ltb, le-ltb}
 use Rattle.counting.specs.Fold.{anyTo, tableTo, fold-none}
@@ -67,6 +67,12 @@ pub record Blockable (kind chooser x : ℕ) (b : List Bool) : Type 0 where
 pub record Blocking (l : ConstraintList) : Type 0 where
   pub count : l .count ≤ 32
   pub each : (j : ℕ) → j < l .count → (kindNumber (constraintAt l j .kind) ≡ 65537) ⊎ (kindNumber (constraintAt l j .kind) ≡ 65538) → (constraintAt l j .left < 64) × (targetOperand (constraintAt l j .right) < 32)
+
+-- .. with a table in which nothing is blocked
+pub record Unfilled (l : ConstraintList) (b : List Bool) : Type 0 where
+  pub blocking : Blocking l
+  pub long : length b ≡ 2048
+  pub none : (p : ℕ) → p < 2048 → getD b p false ≡ false
 
 -- a table of blocks that holds f
 pub record Blocks (f : ℕ → ℕ → Bool) (b : List Bool) : Type 0 where
@@ -190,3 +196,6 @@ blocks-table f b h = ext-getD false b (tableTo 2048 (λ p. f (p / 32) (p % 32)))
 
     mod-lt : (p : ℕ) → p % 32 < 32
     mod-lt p = omega arith
+
+pub unfilled : {l : ConstraintList} → Blocking l → Unfilled l (replicate 2048 false)
+unfilled h = record { blocking = h; long = refl; none = λ p b. getD-replicate 2048 p false false b }

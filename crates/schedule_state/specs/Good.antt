@@ -12,19 +12,22 @@ use Rattle.input_data.specs.Accepted.{Accepted}
 use Rattle.input_data.specs.Fits.{left-chooser, right-below}
 use Rattle.input_data.specs.Lengths.{Within, fullDay, listsLength}
 use Rattle.input_data.specs.declared.Limits.{Limits}
+use Rattle.input_data.specs.declared.ConstraintList.{ConstraintList}
 use Rattle.input_data.specs.declared.InputData.{InputData}
 use Rattle.scheduling.specs.Schedule.{entryAt, kept, kept-at, entries-fit, badSlots}
 use Rattle.scheduling.specs.declared.Scheduling.{Scheduling}
-use Rattle.counting.specs.Fold.{gate, fold-ext}
+use Rattle.counting.specs.Fold.{gate, anyTo, fold-ext}
+use Rattle.counting.specs.Tests.{none-each, each-none}
 use Rattle.counting.specs.Sums.{count-le}
 use Rattle.slot_lists.specs.Held.{LooksAll, isLacking, misheld, lacking-is}
 use Rattle.slot_lists.specs.Sums.{Weighs, Sums, one, inSlot, weightAt, weighed, sums-table}
 use Rattle.slot_lists.specs.Walk.{Carries, Carried, carried}
-use Rattle.schedule_state.specs.Blocks.{Blocking, Blocks, blockedBy, cell, blocks-table}
+use Rattle.schedule_state.specs.Blocks.{Blocking, Blocks, blockedBy, cell, cell-in, blocks-table}
 use Rattle.schedule_state.specs.Calls.{outside, answer}
-use Rattle.schedule_state.specs.State.{keptOf, stateOf, inconsistent, coveredAt, blockedAt, miscounted, miscountedIn, miscountedAt, misblocked, misblockedRow, misblockedAt, unlike, sumsOf, cellsOf}
+use Rattle.schedule_state.specs.State.{keptOf, stateOf, inconsistentIn, miscountedIn, miscountedAt, misblocked, misblockedRow, misblockedAt, unlike, unlikeAt, sumsOf, cellsOf}
 use Rattle.schedule_state.specs.declared.AssignmentScheduleState.{AssignmentScheduleState}
 use Rattle.schedule_state.specs.declared.StateAnswer.{StateAnswer}
+use Rattle.schedule_state.specs.declared.state.Sizes.{Sizes}
 
 -- an accepted day, and a buffer that has room for its lists
 pub record Ready (l : Limits) (d : InputData) (size : ℕ) : Type 0 where
@@ -90,39 +93,58 @@ module _ {l : Limits} {d : InputData} {size : ℕ} (r : Ready l d size) where
   pub counts : {f : ℕ → ℕ} {a : List ℕ} → Sums (entryAt (replicate 32 1)) f (d .choices) a → Sums one f (d .choices) a
   counts p = counts-of choices-most p
 
-module _ {l : Limits} {d : InputData} {st : AssignmentScheduleState} {size : ℕ} (r : ReadyState l d st size) where
-  abbrev old : List ℕ
-  old = keptOf d (st .schedule)
+-- what check 12 asks: sizes that the types hold, a schedule that names the day's slots alone, light choices
+pub record Holdable (z : Sizes) (sch mins : List ℕ) (assignment : ConstraintList) (size : ℕ) : Type 0 where
+  pub choosers : z .choosers ≤ 64
+  pub choices : z .choices ≤ 32
+  pub slots : z .slots ≤ 8
+  pub room : z .choices ≤ z .stride
+  pub fits : (k : ℕ) → k < z .choices → entryAt sch k ≤ z .slots
+  pub part : (k : ℕ) → k < z .choices → entryAt sch k ≢ 0 → z .stride * (entryAt sch k - 1) + z .stride ≤ size
+  pub light : (k : ℕ) → k < z .choices → entryAt mins k ≤ 1000
+  pub blocking : Blocking assignment
 
-  pub looks-all : {a : List ℕ} → Sums one (entryAt old) (d .choices) a → LooksAll (l .choices) (d .choices) old size a
-  looks-all p = record {
-    count = choices-most (r .ready);
-    room = r .ready .day .choices;
-    small = λ k h. omega (arith, kept-fits (r .ready) (st .schedule) (r .inside) k h, slots-most (r .ready));
-    part = kept-part (r .ready) (st .schedule) (r .inside);
-    lens = p;
-  }
+pub holdable : {l : Limits} {d : InputData} {st : AssignmentScheduleState} {size : ℕ} → ReadyState l d st size
+    → Holdable (record { stride = l .choices; choosers = d .choosers; choices = d .choices; slots = d .slots }) (keptOf d (st .schedule)) (d .mins) (d .assignment) size
+holdable {st = st} r = record {
+  choosers = choosers-most (r .ready);
+  choices = choices-most (r .ready);
+  slots = slots-most (r .ready);
+  room = r .ready .day .choices;
+  fits = kept-fits (r .ready) (st .schedule) (r .inside);
+  part = kept-part (r .ready) (st .schedule) (r .inside);
+  light = min-most (r .ready);
+  blocking = blocking (r .ready);
+}
+
+module _ {z : Sizes} {sch mins : List ℕ} {assignment : ConstraintList} {size : ℕ} (h : Holdable z sch mins assignment size) where
+  pub weighs-in : (w : List ℕ) → ((k : ℕ) → k < z .choices → entryAt w k ≤ 1000) → Weighs sch w (z .choices)
+  weighs-in w light = record { count = h .choices; small = λ k b. omega (arith, h .fits k b, h .slots); light = light }
+
+  pub ones-light : (k : ℕ) → k < z .choices → entryAt (replicate 32 1) k ≤ 1000
+  ones-light k b = omega (arith, getD-replicate {A = ℕ} 32 k 1 0 (omega (arith, h .choices)))
+
+  pub looks-all : {a : List ℕ} → Sums one (entryAt sch) (z .choices) a → LooksAll (z .stride) (z .choices) sch size a
+  looks-all p = record { count = h .choices; room = h .room; small = λ k b. omega (arith, h .fits k b, h .slots); part = h .part; lens = p }
 
   -- what the code holds the state against is its own schedule
-  pub counted : {c : List ℕ} → Sums (entryAt (d .mins)) (entryAt old) (d .choices) c → miscountedIn (sumsOf c) (d .slots) (st .covered) ≡ miscounted d old (st .covered)
+  counted : (covered : List ℕ) {c : List ℕ} → Sums (entryAt mins) (entryAt sch) (z .choices) c → miscountedIn (sumsOf c) (z .slots) covered ≡ miscountedIn (weighed (entryAt mins) (entryAt sch) (z .choices)) (z .slots) covered
   unfolding miscountedIn
-  counted {c = c} p = fold-ext _||_ false (d .slots) (miscountedAt (sumsOf c) (st .covered)) (miscountedAt (coveredAt d old) (st .covered))
-      (λ s h. ap (λ (n : ℕ). not (eqb (getD (st .covered) s 0) n)) (p .at s (omega (arith, slots-most (r .ready)))))
+  counted covered {c = c} p = fold-ext _||_ false (z .slots) (miscountedAt (sumsOf c) covered) (miscountedAt (weighed (entryAt mins) (entryAt sch) (z .choices)) covered)
+      (λ s b. ap (λ (n : ℕ). not (eqb (getD covered s 0) n)) (p .at s (omega (arith, h .slots))))
 
-  pub blocked : {b : List Bool} → Blocks (blockedBy (d .assignment) old) b → misblocked (cellsOf b) (d .choosers) (d .choices) (st .blocks) ≡ misblocked (blockedAt d old) (d .choosers) (d .choices) (st .blocks)
+  blocked : (blocks : List Bool) {b : List Bool} → Blocks (blockedBy assignment sch) b → misblocked (cellsOf b) (z .choosers) (z .choices) blocks ≡ misblocked (blockedBy assignment sch) (z .choosers) (z .choices) blocks
   unfolding misblocked
-  blocked {b = b} p = fold-ext _||_ false (d .choosers) (misblockedRow (cellsOf b) (d .choices) (st .blocks)) (misblockedRow (blockedAt d old) (d .choices) (st .blocks))
-      (λ c h. fold-ext _||_ false (d .choices) (misblockedAt (cellsOf b) (st .blocks) c) (misblockedAt (blockedAt d old) (st .blocks) c)
-      (λ k g. ap (λ (t : Bool). unlike (getD (st .blocks) (cell c k) false) t) (p .at c k (omega (arith, choosers-most (r .ready))) (omega (arith, choices-most (r .ready))))))
+  blocked blocks {b = b} p = fold-ext _||_ false (z .choosers) (misblockedRow (cellsOf b) (z .choices) blocks) (misblockedRow (blockedBy assignment sch) (z .choices) blocks)
+      (λ c x. fold-ext _||_ false (z .choices) (misblockedAt (cellsOf b) blocks c) (misblockedAt (blockedBy assignment sch) blocks c)
+      (λ k y. ap (λ (t : Bool). unlike (getD blocks (cell c k) false) t) (p .at c k (omega (arith, h .choosers)) (omega (arith, h .choices)))))
 
-  pub listed : (bytes : List ℕ) → isLacking (l .choices) (entryAt old) (d .choices) bytes ≡ misheld (l .choices) (entryAt old) (d .choices) (d .slots) bytes
-  listed bytes = lacking-is (l .choices) (entryAt old) (d .choices) (d .slots) bytes (kept-fits (r .ready) (st .schedule) (r .inside))
-
-  pub inconsistent-is : (bytes : List ℕ) {x y z : Bool} {c : List ℕ} {b : List Bool} → x ≡ isLacking (l .choices) (entryAt old) (d .choices) bytes
-      → Sums (entryAt (d .mins)) (entryAt old) (d .choices) c → y ≡ miscountedIn (sumsOf c) (d .slots) (st .covered)
-      → Blocks (blockedBy (d .assignment) old) b → z ≡ misblocked (cellsOf b) (d .choosers) (d .choices) (st .blocks)
-      → (x || y || z) ≡ inconsistent l d st bytes
-  inconsistent-is bytes p cs q bs r′ = rw (p ∙ listed bytes, q ∙ counted cs, r′ ∙ blocked bs)
+  pub inconsistent-is : (covered : List ℕ) (blocks : List Bool) (bytes : List ℕ) {x y w : Bool} {c : List ℕ} {b : List Bool} → x ≡ isLacking (z .stride) (entryAt sch) (z .choices) bytes
+      → Sums (entryAt mins) (entryAt sch) (z .choices) c → y ≡ miscountedIn (sumsOf c) (z .slots) covered
+      → Blocks (blockedBy assignment sch) b → w ≡ misblocked (cellsOf b) (z .choosers) (z .choices) blocks
+      → (x || y || w) ≡ inconsistentIn (z .stride) (z .choosers) (z .choices) (z .slots) mins assignment sch covered blocks bytes
+  inconsistent-is covered blocks bytes p cs q bs r =
+      rw (p ∙ lacking-is (z .stride) (entryAt sch) (z .choices) (z .slots) bytes (h .fits), q ∙ counted covered cs, r ∙ blocked blocks bs)
 
 -- ---- carrying a state
 
@@ -190,3 +212,10 @@ listing-of r sch inside slot h = record {
   small = omega (arith, slots-most r);
   part = part-in r slot h;
 }
+
+-- tables that do not differ anywhere do not differ within the day
+pub nowhere-unlike : (a b : List Bool) (choosers choices : ℕ) → choosers ≤ 64 → choices ≤ 32 → anyTo 2048 (unlikeAt a b) ≡ false → misblocked (cellsOf b) choosers choices a ≡ false
+unfolding misblocked
+nowhere-unlike a b choosers choices hc hk e =
+    each-none choosers (misblockedRow (cellsOf b) choices a) (λ c x. each-none choices (misblockedAt (cellsOf b) a c)
+    (λ k y. none-each 2048 (unlikeAt a b) e (cell c k) (cell-in c k (omega arith) (omega arith))))

@@ -7,6 +7,7 @@ use lib.ListN.{getD, replicate}
 use Rattle.counting.specs.Fold.{anyTo, tableTo}
 use Rattle.input_data.specs.Day.{minAt}
 use Rattle.input_data.specs.declared.Limits.{Limits}
+use Rattle.input_data.specs.declared.ConstraintList.{ConstraintList}
 use Rattle.input_data.specs.declared.InputData.{InputData}
 use Rattle.scheduling.specs.Schedule.{entryAt, kept}
 use Rattle.scheduling.specs.declared.Scheduling.{Scheduling}
@@ -55,6 +56,10 @@ miscounted d sch covered = miscountedIn (coveredAt d sch) (d .slots) covered
 abbrev pub unlike : Bool → Bool → Bool
 unlike a b = (a && not b) || (not a && b)
 
+-- two tables differ at place p
+abbrev pub unlikeAt : List Bool → List Bool → ℕ → Bool
+unlikeAt a b p = unlike (getD a p false) (getD b p false)
+
 abbrev pub misblockedAt : (ℕ → ℕ → Bool) → List Bool → ℕ → ℕ → Bool
 misblockedAt f blocks c k = unlike (getD blocks (cell c k) false) (f c k)
 
@@ -71,9 +76,12 @@ sumsOf a s = getD a s 0
 abbrev pub cellsOf : List Bool → ℕ → ℕ → Bool
 cellsOf b c k = getD b (cell c k) false
 
--- 12. The state is not consistent with its own schedule.
+-- 12. The state is not consistent with its own schedule: what it says of lists, covered counts and blocks is not what follows from these.
+abbrev pub inconsistentIn : ℕ → ℕ → ℕ → ℕ → List ℕ → ConstraintList → List ℕ → List ℕ → List Bool → List ℕ → Bool
+inconsistentIn stride choosers choices slots mins assignment sch covered blocks bytes =
+    misheld stride (entryAt sch) choices slots bytes
+    || miscountedIn (weighed (entryAt mins) (entryAt sch) choices) slots covered
+    || misblocked (blockedBy assignment sch) choosers choices blocks
+
 abbrev pub inconsistent : Limits → InputData → AssignmentScheduleState → List ℕ → Bool
-inconsistent l d st bytes =
-    misheld (l .choices) (entryAt (keptOf d (st .schedule))) (d .choices) (d .slots) bytes
-    || miscounted d (keptOf d (st .schedule)) (st .covered)
-    || misblocked (blockedAt d (keptOf d (st .schedule))) (d .choosers) (d .choices) (st .blocks)
+inconsistent l d st bytes = inconsistentIn (l .choices) (d .choosers) (d .choices) (d .slots) (d .mins) (d .assignment) (keptOf d (st .schedule)) (st .covered) (st .blocks) bytes

@@ -6,7 +6,7 @@ ghost use Prim.Native.Nat.{_<_};
 ghost use lib.ListN.{length};
 ghost use Rattle.constraint.specs.Kind.{kindNumber};
 ghost use Rattle.constraint.specs.Cases.{targetOperand};
-ghost use Rattle.schedule_state.specs.Blocks.{besideFor, blocksFor, blocksBy, blockedBy, Blocked, Blocks, Blockable, Blocking};
+ghost use Rattle.schedule_state.specs.Blocks.{besideFor, blocksFor, blocksBy, blockedBy, Blocked, Blocks, Blockable, Unfilled};
 
 // The choices beside choice x in its slot are blocked for a chooser. x has a slot.
 fn block_beside(blocks: &mut [bool; 2048], entries: &[u8; 32], chooser: usize, x: usize)
@@ -51,18 +51,16 @@ fn block_constraint(blocks: &mut [bool; 2048], entries: &[u8; 32], c: Constraint
     block_by(blocks, entries, kind.number(), c.left, right.operand());
 }
 
-// The blocks of a schedule: what each assignment constraint blocks.
-pub fn blocks_of(list: ConstraintList, entries: &[u8; 32]) -> [bool; 2048]
-    requires { ⌜ Blocking list ⌝ }
-    ensures { λ r. ⌜ Blocks (blockedBy list (now (entries .entry))) r ⌝ }
+// The blocks of a schedule, in a table in which nothing is blocked yet: what each assignment constraint blocks.
+pub fn fill_blocks(blocks: &mut [bool; 2048], list: ConstraintList, entries: &[u8; 32])
+    requires { ⌜ Unfilled list (now blocks) ⌝ }
+    ensures { λ _. ⌜ Blocks (blockedBy list (now (entries .entry))) (now (blocks .exit)) ⌝ }
 {
     let count = list.count;
-    let mut blocks = [false; 2048];
     let mut j = 0;
     while j < count {
         let c = list.entries[j];
-        block_constraint(&mut blocks, entries, c.constraint());
+        block_constraint(blocks, entries, c.constraint());
         j += 1;
     }
-    blocks
 }

@@ -1,5 +1,6 @@
 // The list of a slot, as a part of the lent buffer.
 use crate::AssignmentScheduleState;
+use crate::state::Sizes;
 use crate::state::beside;
 use crate::state::full_day;
 use crate::state::is_inconsistent;
@@ -33,7 +34,25 @@ fn number_within(
     if scheduling::bad_slots(day.choices, day.slots, &state.schedule.entries) {
         return 11;
     }
-    input_data::first(is_inconsistent(limits, day, state, lists), 12, 0)
+    let entries = scheduling::kept(day.choices, &state.schedule.entries);
+    let covered = state.covered;
+    let mins = day.mins;
+    let sizes = Sizes {
+        stride: limits.choices,
+        choosers: day.choosers,
+        choices: day.choices,
+        slots: day.slots,
+    };
+    let bad = is_inconsistent(
+        sizes,
+        entries,
+        covered,
+        mins,
+        day.assignment,
+        &state.blocks,
+        lists,
+    );
+    input_data::first(bad, 12, 0)
 }
 
 // The used front of a slot's part of the buffer.

@@ -1,19 +1,20 @@
 // Build and update.
 use crate::AssignmentScheduleState;
 use crate::StateAnswer;
-use crate::blocks::blocks_of;
+use crate::blocks::fill_blocks;
 use crate::checks::blocks_differ;
 use crate::checks::sums_differ;
 use input_data::Beside;
+use input_data::ConstraintList;
 use input_data::InputData;
 use input_data::Limits;
 use scheduling::Scheduling;
 ghost use mathlib.Core.Path.{_≡_};
 ghost use lib.ListN.{length, replicate};
 ghost use Rattle.input_data.specs.Lengths.{Within, fullDay};
-ghost use Rattle.schedule_state.specs.State.{inconsistent};
+ghost use Rattle.schedule_state.specs.State.{inconsistentIn};
 ghost use Rattle.schedule_state.specs.Calls.{besideLists, refused, buildNumber, updateNumber, builtState, builtLists, updatedState, updatedLists, Leaves};
-ghost use Rattle.schedule_state.specs.Good.{ReadyState, Carriable, CarriedState};
+ghost use Rattle.schedule_state.specs.Good.{Holdable, Carriable, CarriedState};
 
 // The weights that make a sum a count.
 pub fn ones() -> [u32; 32]
@@ -38,25 +39,37 @@ fn refuse(number: u32) -> StateAnswer
     }
 }
 
-// 12: a state whose schedule names the day's slots alone is held against that schedule.
+// What a state and its day say to check 12, without the tables that are lent beside it.
+pub struct Sizes {
+    pub stride: usize,
+    pub choosers: usize,
+    pub choices: usize,
+    pub slots: usize,
+}
+
+// 12: what a state says is held against its schedule, which names the day's slots alone. Small
+// arrays go by value and the blocks are lent, so that no day and no state is copied.
 pub fn is_inconsistent(
-    limits: Limits,
-    day: InputData,
-    state: AssignmentScheduleState,
+    sizes: Sizes,
+    entries: [u8; 32],
+    covered: [u32; 8],
+    mins: [u32; 32],
+    assignment: ConstraintList,
+    blocks: &[bool; 2048],
     lists: &[u8],
 ) -> bool
-    requires { ⌜ ReadyState limits day state (length (now lists)) ⌝ }
-    ensures { λ r. ⌜ r ≡ inconsistent limits day state (now (lists .entry)) ⌝ }
+    requires { ⌜ Holdable sizes entries mins assignment (length (now lists)) ⌝ }
+    ensures { λ r. ⌜ r ≡ inconsistentIn (sizes .stride) (sizes .choosers) (sizes .choices) (sizes .slots) mins assignment entries covered (now (blocks .entry)) (now (lists .entry)) ⌝ }
 {
-    let n = day.choices;
-    let old = scheduling::kept(n, &state.schedule.entries);
-    let lens = slot_lists::sums(&old, &ones(), n);
-    let lacking = slot_lists::lacking(lists, &lens, &old, limits.choices, n);
-    let covered = slot_lists::sums(&old, &day.mins, n);
-    let blocks = blocks_of(day.assignment, &old);
+    let n = sizes.choices;
+    let lens = slot_lists::sums(&entries, &ones(), n);
+    let lacking = slot_lists::lacking(lists, &lens, &entries, sizes.stride, n);
+    let sums = slot_lists::sums(&entries, &mins, n);
+    let mut fresh = [false; 2048];
+    fill_blocks(&mut fresh, assignment, &entries);
     lacking
-        | sums_differ(&state.covered, &covered, day.slots)
-        | blocks_differ(&state.blocks, &blocks, day.choosers, n)
+        | sums_differ(&covered, &sums, sizes.slots)
+        | blocks_differ(blocks, &fresh, sizes.choosers, n)
 }
 
 // What these calls test beside the day.
@@ -104,7 +117,25 @@ fn update_number(
     if new | old {
         return 11;
     }
-    input_data::first(is_inconsistent(limits, day, state, lists), 12, 0)
+    let entries = scheduling::kept(day.choices, &state.schedule.entries);
+    let covered = state.covered;
+    let mins = day.mins;
+    let sizes = Sizes {
+        stride: limits.choices,
+        choosers: day.choosers,
+        choices: day.choices,
+        slots: day.slots,
+    };
+    let bad = is_inconsistent(
+        sizes,
+        entries,
+        covered,
+        mins,
+        day.assignment,
+        &state.blocks,
+        lists,
+    );
+    input_data::first(bad, 12, 0)
 }
 
 // The lists are carried from one schedule to the other, and the state of the other is made.
@@ -131,7 +162,8 @@ fn carry_state(
         &new,
         &day.mins,
     );
-    let blocks = blocks_of(day.assignment, &new);
+    let mut blocks = [false; 2048];
+    fill_blocks(&mut blocks, day.assignment, &new);
     let schedule = Scheduling { entries: new };
     let state = AssignmentScheduleState {
         schedule: schedule,
