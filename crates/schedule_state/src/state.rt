@@ -162,14 +162,13 @@ fn carry_state(
         &new,
         &day.mins,
     );
-    let mut blocks = [false; 2048];
-    fill_blocks(&mut blocks, day.assignment, &new);
     let schedule = Scheduling { entries: new };
-    let state = AssignmentScheduleState {
+    let mut state = AssignmentScheduleState {
         schedule: schedule,
         covered: covered,
-        blocks: blocks,
+        blocks: [false; 2048],
     };
+    fill_blocks(&mut state.blocks, day.assignment, &new);
     StateAnswer {
         number: 0,
         state: state,

@@ -27,7 +27,7 @@ sums-requires-2 c κs = let h = c .before .before .before .before .before .befor
 carry-requires : tie.Need-carry-requires
 carry-requires c κs = carries (c .before .before .before .before .before .before .before .before .before .before .before .before .before .before .before .before .pre) (rw (c .before .before .before .before .before .before .before .before .before .before .before .before .before .ones .ensures) at (c .before .before .before .before .before .before .before .before .before .before .before .sums .ensures)) (c .before .before .before .before .before .before .before .sums2 .ensures)
 
--- src/state.rt:166:5
+-- src/state.rt:171:5
 fill-blocks-requires : tie.Need-fill-blocks-requires
 fill-blocks-requires c κs = unfilled (blocking (c .before .before .before .before .before .before .before .before .before .before .before .before .before .before .before .before .before .before .before .before .before .before .pre .ready))
 
