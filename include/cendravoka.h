@@ -106,6 +106,16 @@ typedef struct {
     size_t length;
 } cendravoka_slot_list_answer;
 
+/* How much of a model stands in its buffers: the edges, the entries of all
+ * groups together, the groups and the blocked entries. */
+typedef struct {
+    uint32_t number;
+    size_t edges;
+    size_t entries;
+    size_t groups;
+    size_t blocked;
+} cendravoka_model_answer;
+
 /* A fresh build of the state of a schedule. The slot lists are written into
  * lists, of at least 256 bytes. Refused by 1, 2, 3, 4, 7, 8, 9, 10, 11. */
 cendravoka_state_answer cendravoka_build(cendravoka_input_data day, cendravoka_scheduling schedule,
@@ -123,6 +133,55 @@ cendravoka_slot_list_answer cendravoka_slot_list(cendravoka_input_data day,
                                                  cendravoka_schedule_state state,
                                                  const uint8_t *lists, size_t lists_length,
                                                  size_t slot);
+
+/* The flow model of a state, whose slot lists stand in lists, at a preference
+ * limit. preferences has choosers * choices numbers, chooser by chooser; costs
+ * has max_preference + 1.
+ * Nodes: chooser c in slot s is c * slots + s; choice k is choosers * slots + k;
+ * slot s is choosers * slots + choices + s.
+ * supplies, of at least 552, gets a number for each node. from, to, max and
+ * cost, of at least 2080 each, get a number for each edge: its nodes, the most
+ * it may carry and its unit cost. Edges are named by their place there.
+ * entries, of at least 4096, gets the edges of the groups, one group after the
+ * other; ends, of at least 2048, for each group how many entries there are up
+ * to its end. blocked, of at least 4096, gets the edges that must be 0.
+ * What lies past the used front of a buffer is left as it is.
+ * Refused by 1, 2, 3, 4, 6, 7, 8, 9, 10, 11, 12. */
+cendravoka_model_answer cendravoka_model(
+    cendravoka_input_data day, cendravoka_schedule_state state, uint32_t limit,
+    const uint32_t *preferences, size_t preferences_length,
+    const int64_t *costs, size_t costs_length,
+    const uint8_t *lists, size_t lists_length,
+    int32_t *supplies, size_t supplies_length,
+    uint16_t *from, size_t from_length,
+    uint16_t *to, size_t to_length,
+    uint32_t *max, size_t max_length,
+    int64_t *cost, size_t cost_length,
+    uint16_t *entries, size_t entries_length,
+    uint16_t *ends, size_t ends_length,
+    uint16_t *blocked, size_t blocked_length);
+
+/* Whether the model, which is built anew, accepts these edge values, and the
+ * plan that they stand for: plan, of at least 512 bytes, gets the choice of
+ * chooser c in slot s at c * slots + s. values has at least 2080 numbers, of
+ * which those past the last edge are not read.
+ * Refused as the model, and by 14 to 17, which leave the model in its buffers
+ * and the plan as it is. */
+cendravoka_model_answer cendravoka_check_values(
+    cendravoka_input_data day, cendravoka_schedule_state state, uint32_t limit,
+    const uint32_t *preferences, size_t preferences_length,
+    const int64_t *costs, size_t costs_length,
+    const uint8_t *lists, size_t lists_length,
+    const int32_t *values, size_t values_length,
+    int32_t *supplies, size_t supplies_length,
+    uint16_t *from, size_t from_length,
+    uint16_t *to, size_t to_length,
+    uint32_t *max, size_t max_length,
+    int64_t *cost, size_t cost_length,
+    uint16_t *entries, size_t entries_length,
+    uint16_t *ends, size_t ends_length,
+    uint16_t *blocked, size_t blocked_length,
+    uint8_t *plan, size_t plan_length);
 
 /* Constraint::negation. 9: kind 6, SlotHasLimitedSize, without an operator. */
 cendravoka_negation_answer cendravoka_negation(uint32_t kind, uint32_t left, uint32_t target_case,

@@ -60,6 +60,10 @@ abbrev pub anyTo : ℕ → (ℕ → Bool) → Bool
 anyTo n f = foldTo _||_ false n f
 
 module _ {ℓ} {A : Type ℓ} where
+  -- a list where a test holds, and none elsewhere
+  abbrev pub onlyIf : Bool → List A → List A
+  onlyIf b l = cond b l []
+
   -- the lists f 0, f 1, .., one after the other
   abbrev pub joinTo : ℕ → (ℕ → List A) → List A
   joinTo n f = foldTo _++_ [] n f

@@ -1,13 +1,14 @@
 -- Laws of joins and tables. Assumes nothing.
 use Prim.Native.Nat.{ℕ, zero, suc, _+_, _*_, _<_, _≤_, zero-le}
 use mathlib.Core.Path.{_≡_, refl, sym, ap, _∙_}
+use mathlib.Core.Bool.{Bool, true, false}
 use mathlib.Core.List.{List, [], _∷_, _++_}
 use native.Mathlib.Nat.{suc-mul, le-of-eq}
 use native.Mathlib.Numerals.{add-one}
 use native.Mathlib.Omega.{arith}
 use lib.ListN.{length, getD, set, take, length-append, length-set, List·getD-append}
 use lib.Seq.{take-all, take-suc-set, getD-at}
-use Rattle.counting.specs.Fold.{foldTo, fold-none, fold-suc, fold-more, sumTo, joinTo, tableTo}
+use Rattle.counting.specs.Fold.{foldTo, fold-none, fold-suc, fold-more, sumTo, onlyIf, joinTo, tableTo}
 use Rattle.counting.specs.Sums.{sum-le, sum-const}
 use Rattle.counting.specs.Tests.{eq-cases}
 
@@ -20,6 +21,14 @@ module _ {ℓ} {A : Type ℓ} where
   -- n lists of at most m elements each
   pub length-join-most : (n m : ℕ) (f : ℕ → List A) → ((k : ℕ) → length (f k) ≤ m) → length (joinTo n f) ≤ n * m
   length-join-most n m f h = omega (arith, length-join n f, sum-le n (λ k. length (f k)) (λ k. m) (λ k l. h k), sum-const n m)
+
+  -- n lists of at most m k elements each
+  pub length-join-sum : (n : ℕ) (m : ℕ → ℕ) (f : ℕ → List A) → ((k : ℕ) → length (f k) ≤ m k) → length (joinTo n f) ≤ sumTo n m
+  length-join-sum n m f h = omega (arith, length-join n f, sum-le n (λ k. length (f k)) m (λ k l. h k))
+
+  pub only-length : (b : Bool) (x : A) → length (onlyIf b (x ∷ [])) ≤ 1
+  only-length true x = omega arith
+  only-length false x = omega arith
 
   pub length-table : (n : ℕ) (f : ℕ → A) → length (tableTo n f) ≡ n
   length-table n f = omega (arith, length-join n (λ k. f k ∷ []), sum-const n 1)

@@ -49,12 +49,13 @@ module _ (w : Width) (a b : ℕ) (ha : a < 2 ^ hbits w) (hb : b < 2 ^ hbits w) w
   pub sub-back : toZ w (ofZ w (toZ w a -ℤ toZ w b)) ≡ pos a -ℤ pos b
   sub-back = ap (λ z. toZ w (ofZ w z)) sub-eq ∙ toZ-ofZ small
 
-eqZ-same : (a b : ℤ) → a ≡ b → eqZ a b ≡ true
+-- the test of two integers, both ways
+pub eqZ-same : (a b : ℤ) → a ≡ b → eqZ a b ≡ true
 unfolding eqZ
 eqZ-same (pos a) b e = rw (← e) (eq-eqb a a refl)
 eqZ-same (negsuc a) b e = rw (← e) (eq-eqb a a refl)
 
-same-eqZ : (a b : ℤ) → eqZ a b ≡ true → a ≡ b
+pub same-eqZ : (a b : ℤ) → eqZ a b ≡ true → a ≡ b
 unfolding eqZ
 same-eqZ (pos a) (pos b) e = ap pos (eqb-true a b e)
 same-eqZ (pos a) (negsuc b) e = cc

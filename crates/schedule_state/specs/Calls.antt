@@ -53,13 +53,18 @@ updatedState d sch = stateOf d (keptOf d sch)
 abbrev pub updatedLists : Limits → InputData → AssignmentScheduleState → Scheduling → List ℕ → List ℕ
 updatedLists l d st sch bytes = carried (l .choices) (entryAt (keptOf d (st .schedule))) (entryAt (keptOf d sch)) (d .choices) bytes (d .choices)
 
--- ---- a slot's list
+-- ---- calls that are handed a state and its slot lists
 
-unfoldable pub slotListNumber : Limits → InputData → AssignmentScheduleState → ℕ → List ℕ → ℕ
-slotListNumber l d st slot bytes =
-    dayNumber l d (besideLists l (length bytes) (leb (d .slots) slot))
+unfoldable pub stateNumber : Limits → InputData → AssignmentScheduleState → Beside → List ℕ → ℕ
+stateNumber l d st b bytes =
+    dayNumber l d b
     (firstOf (outside d (st .schedule)) 11
     (firstOf (inconsistent l d st bytes) 12 0))
+
+-- ---- a slot's list
+
+abbrev pub slotListNumber : Limits → InputData → AssignmentScheduleState → ℕ → List ℕ → ℕ
+slotListNumber l d st slot bytes = stateNumber l d st (besideLists l (length bytes) (leb (d .slots) slot)) bytes
 
 -- how many choices the state's schedule puts into the slot
 abbrev pub slotListLength : InputData → AssignmentScheduleState → ℕ → ℕ

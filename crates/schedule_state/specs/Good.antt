@@ -14,6 +14,7 @@ use Rattle.input_data.specs.Lengths.{Within, fullDay, listsLength}
 use Rattle.input_data.specs.declared.Limits.{Limits}
 use Rattle.input_data.specs.declared.ConstraintList.{ConstraintList}
 use Rattle.input_data.specs.declared.InputData.{InputData}
+use Rattle.input_data.specs.declared.checks.Beside.{Beside}
 use Rattle.scheduling.specs.Schedule.{entryAt, kept, kept-at, entries-fit, badSlots}
 use Rattle.scheduling.specs.declared.Scheduling.{Scheduling}
 use Rattle.counting.specs.Fold.{gate, anyTo, fold-ext}
@@ -34,6 +35,11 @@ pub record Ready (l : Limits) (d : InputData) (size : ℕ) : Type 0 where
   pub within : Within l
   pub day : Accepted l d
   pub room : listsLength l ≤ size
+
+-- what a call tests beside the day says of the slot lists' length
+pub record Handed (l : Limits) (b : Beside) (size : ℕ) : Type 0 where
+  pub within : Within l
+  pub room : b .lengths ≡ false → listsLength l ≤ size
 
 -- .. with a state whose schedule names the day's slots alone
 pub record ReadyState (l : Limits) (d : InputData) (st : AssignmentScheduleState) (size : ℕ) : Type 0 where

@@ -21,8 +21,8 @@ use Rattle.input_data.specs.declared.Limits.{Limits}
 use Rattle.input_data.specs.declared.InputData.{InputData}
 use Rattle.input_data.specs.declared.checks.Beside.{Beside}
 use Rattle.scheduling.specs.declared.Scheduling.{Scheduling}
-use Rattle.schedule_state.specs.Calls.{besideLists, outside, buildNumber, builtState, builtLists, updateNumber, updatedState, updatedLists, slotListNumber, slotListIn, PartOf, HandsBack, answer, refused, Leaves}
-use Rattle.schedule_state.specs.Good.{Ready, ReadyState, Carriable, CarriedState, kept-fits}
+use Rattle.schedule_state.specs.Calls.{besideLists, outside, buildNumber, builtState, builtLists, updateNumber, updatedState, updatedLists, stateNumber, slotListNumber, slotListIn, PartOf, HandsBack, answer, refused, Leaves}
+use Rattle.schedule_state.specs.Good.{Handed, Ready, ReadyState, Carriable, CarriedState, kept-fits}
 use Rattle.schedule_state.specs.State.{inconsistent, keptOf}
 use Rattle.schedule_state.specs.declared.AssignmentScheduleState.{AssignmentScheduleState}
 use Rattle.schedule_state.specs.declared.StateAnswer.{StateAnswer}
@@ -135,6 +135,31 @@ module _ (l : Limits) (d : InputData) (st : AssignmentScheduleState) (slot : ℕ
   pub hands-list : {n : ℕ} {r : RefT (List ℕ)} → n ≡ slotListNumber l d st slot (now x) → n ≡ 0 → PartOf x (l .choices * slot) (slotListIn l d st slot (now x)) r → HandsBack l d st slot x r
   hands-list e f p = rw (eq-eqb (slotListNumber l d st slot (now x)) 0 (sym e ∙ f)) p
 
+-- what accepted input satisfies
+pub record StateAccepted (l : Limits) (d : InputData) (st : AssignmentScheduleState) (b : Beside) (bytes : List ℕ) : Type 0 where
+  pub ready : Ready l d (length bytes)
+  pub past : Past b 0
+  pub inside : outside d (st .schedule) ≡ false
+  pub consistent : inconsistent l d st bytes ≡ false
+
+module _ (l : Limits) (d : InputData) (st : AssignmentScheduleState) (b : Beside) (bytes : List ℕ) where
+  pub state-accepted : Handed l b (length bytes) → stateNumber l d st b bytes ≡ 0 → StateAccepted l d st b bytes
+  unfolding stateNumber
+  state-accepted h e =
+      let rest = firstOf (outside d (st .schedule)) 11 (firstOf (inconsistent l d st bytes) 12 0) in
+      let q = past l d b rest e in
+      let p = first-zero (outside d (st .schedule)) 11 (firstOf (inconsistent l d st bytes) 12 0) (omega arith) (q .none) in
+      record {
+        ready = record { within = h .within; day = accepted l d b rest (h .within) e; room = h .room (q .lengths) };
+        past = rw (q .none) at q;
+        inside = p .0;
+        consistent = first-zero (inconsistent l d st bytes) 12 0 (omega arith) (p .1) .0;
+      }
+
+-- the lists' length, as the calls test it that test nothing else beside the day
+pub handed-lists : (l : Limits) (size : ℕ) (asked : Bool) → Within l → Handed l (besideLists l size asked) size
+handed-lists l size asked w = record { within = w; room = λ e. ltb-false size (listsLength l) e }
+
 pub record SlotListAccepted (l : Limits) (d : InputData) (st : AssignmentScheduleState) (s : ℕ) (bytes : List ℕ) : Type 0 where
   pub ready : Ready l d (length bytes)
   pub inside : outside d (st .schedule) ≡ false
@@ -142,14 +167,7 @@ pub record SlotListAccepted (l : Limits) (d : InputData) (st : AssignmentSchedul
   pub consistent : inconsistent l d st bytes ≡ false
 
 pub slot-list-accepted : (l : Limits) (d : InputData) (st : AssignmentScheduleState) (slot : ℕ) (bytes : List ℕ) → Within l → slotListNumber l d st slot bytes ≡ 0 → SlotListAccepted l d st slot bytes
-unfolding slotListNumber
 slot-list-accepted l d st slot bytes w e =
-    let rest = firstOf (outside d (st .schedule)) 11 (firstOf (inconsistent l d st bytes) 12 0) in
-    let q = past l d (besideLists l (length bytes) (leb (d .slots) slot)) rest e in
-    let p = first-zero (outside d (st .schedule)) 11 (firstOf (inconsistent l d st bytes) 12 0) (omega arith) (q .none) in
-    record {
-      ready = ready-of l d (length bytes) (leb (d .slots) slot) rest w e;
-      inside = p .0;
-      slot = leb-false (d .slots) slot (q .asked);
-      consistent = first-zero (inconsistent l d st bytes) 12 0 (omega arith) (p .1) .0;
-    }
+    let b = besideLists l (length bytes) (leb (d .slots) slot) in
+    let a = state-accepted l d st b bytes (handed-lists l (length bytes) (leb (d .slots) slot) w) e in
+    record { ready = a .ready; inside = a .inside; slot = leb-false (d .slots) slot (a .past .asked); consistent = a .consistent }

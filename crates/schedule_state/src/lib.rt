@@ -4,10 +4,15 @@ mod checks;
 mod listing;
 mod state;
 
+pub use listing::list_front;
 pub use listing::slot_list;
 pub use listing::slot_list_number;
+pub use listing::state_number;
 use scheduling::Scheduling;
+pub use state::Sizes;
 pub use state::build;
+pub use state::full_day;
+pub use state::ones;
 pub use state::update;
 
 // Lists of choices stand in a lent buffer; their lengths follow from the schedule.

@@ -5,29 +5,31 @@ use crate::state::beside;
 use crate::state::full_day;
 use crate::state::is_inconsistent;
 use crate::state::ones;
+use input_data::Beside;
 use input_data::InputData;
 use input_data::Limits;
 ghost use mathlib.Core.Path.{_≡_};
-ghost use Prim.Native.Nat.{_*_};
+ghost use Prim.Native.Nat.{_+_, _*_, _≤_};
 ghost use lib.ListN.{length, take, drop};
 ghost use Rattle.input_data.specs.Lengths.{Within, fullDay};
 ghost use Rattle.scheduling.specs.Schedule.{entryAt};
 ghost use Rattle.slot_lists.specs.Sums.{one, weighed};
-ghost use Rattle.schedule_state.specs.Calls.{slotListNumber, PartOf, HandsBack};
-ghost use Rattle.schedule_state.specs.Good.{Listing};
+ghost use Rattle.schedule_state.specs.Calls.{stateNumber, slotListNumber, PartOf, HandsBack};
+ghost use Rattle.schedule_state.specs.Good.{Handed, Listing};
 
-fn number_within(
+// The number of a call that is handed a state and its slot lists, with what else it tests. Where the
+// lengths are right the lists have theirs.
+pub fn state_number(
     limits: Limits,
     day: InputData,
     state: AssignmentScheduleState,
+    beside: Beside,
     lists: &[u8],
-    slot: usize,
 ) -> u32
-    requires { ⌜ Within limits ⌝ }
-    ensures { λ r. ⌜ r ≡ slotListNumber limits day state slot (now (lists .entry)) ⌝ }
+    requires { ⌜ Handed limits beside (length (now lists)) ⌝ }
+    ensures { λ r. ⌜ r ≡ stateNumber limits day state beside (now (lists .entry)) ⌝ }
 {
-    let asked = day.slots <= slot;
-    let number = input_data::day_number(limits, day, beside(limits, lists.len(), asked), 0);
+    let number = input_data::day_number(limits, day, beside, 0);
     if number != 0 {
         return number;
     }
@@ -55,6 +57,30 @@ fn number_within(
     input_data::first(bad, 12, 0)
 }
 
+fn number_within(
+    limits: Limits,
+    day: InputData,
+    state: AssignmentScheduleState,
+    lists: &[u8],
+    slot: usize,
+) -> u32
+    requires { ⌜ Within limits ⌝ }
+    ensures { λ r. ⌜ r ≡ slotListNumber limits day state slot (now (lists .entry)) ⌝ }
+{
+    let tested = beside(limits, lists.len(), day.slots <= slot);
+    state_number(limits, day, state, tested, lists)
+}
+
+// The first `len` bytes of a slot's part of the buffer: its list. The model is built and decoded from these.
+pub fn list_front<'a>(lists: &'a [u8], stride: usize, slot: usize, len: usize) -> &'a [u8]
+    requires { ⌜ (len ≤ stride) × (stride * slot + stride ≤ length (now lists)) ⌝ }
+    ensures { λ r. ⌜ PartOf (lists .entry) (stride * slot) (take len (drop (stride * slot) (now (lists .entry)))) r ⌝ }
+{
+    let a = stride * slot;
+    let e = a + len;
+    &lists[a..e]
+}
+
 // The used front of a slot's part of the buffer.
 fn list_part<'a>(
     lists: &'a [u8],
@@ -67,9 +93,7 @@ fn list_part<'a>(
     ensures { λ r. ⌜ PartOf (lists .entry) (stride * slot) (take (weighed one (entryAt (now (entries .entry))) n slot) (drop (stride * slot) (now (lists .entry)))) r ⌝ }
 {
     let lens = slot_lists::sums(entries, &ones(), n);
-    let a = stride * slot;
-    let e = a + lens[slot] as usize;
-    &lists[a..e]
+    list_front(lists, stride, slot, lens[slot] as usize)
 }
 
 fn list_within<'a>(

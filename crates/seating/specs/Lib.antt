@@ -3,3 +3,4 @@ pub mod Constraints
 pub mod Scores
 pub mod States
 pub mod SampleDay
+pub mod SampleRun

@@ -4,27 +4,40 @@ use mathlib.Core.Path.{_≡_, refl, sym, _∙_}
 use mathlib.Core.Bool.{false, true}
 use mathlib.Core.List.{List, [], _∷_, _++_}
 use native.Mathlib.Omega.{arith}
-use lib.IntN.{pos}
+use lib.IntN.{ℤ, pos, negsuc}
 use lib.ListN.{length, take, replicate}
 use lib.Ieee.{Float, fin}
-use Rattle.input_data.specs.Checks.{firstOf, dayNumber, lateNumber, memberCount}
+use Rattle.constraint.specs.Kind.{kindOf}
+use Rattle.input_data.specs.Checks.{firstOf, dayNumber, lateNumber, memberCount, badPreferences, badCosts}
 use Rattle.input_data.specs.Day.{noNumbers}
 use Rattle.input_data.specs.Lengths.{fullDay}
-use Rattle.input_data.specs.Operands.{leftFits, rightFits, extraFits}
 use Rattle.input_data.specs.declared.ConstraintList.{ConstraintList}
+use Rattle.input_data.specs.declared.ConstraintNumbers.{ConstraintNumbers}
 use Rattle.input_data.specs.declared.InputData.{InputData}
 use Rattle.counting.specs.Fold.{foldTo}
+use Rattle.counting.specs.Ints.{eqZ}
 use Rattle.counting.specs.Search.{firstTo}
 use Rattle.counting.specs.Tests.{someBelow}
 use Rattle.scheduling.specs.declared.Scheduling.{Scheduling}
-use Rattle.schedule_state.specs.Agreement.{Call, Carried, first, after, run, Fed, AsFresh}
-use Rattle.schedule_state.specs.CarriedAgrees.{carried-agrees}
-use Rattle.schedule_state.specs.Calls.{buildNumber, builtState, builtLists, updateNumber, updatedState, updatedLists, slotListIn}
+use Rattle.schedule_state.specs.Agreement.{Call, Carried, first}
+use Rattle.schedule_state.specs.Blocks.{blockedBy}
+use Rattle.schedule_state.specs.Calls.{builtState, builtLists, updatedState, updatedLists, slotListIn, stateNumber}
+use Rattle.schedule_state.specs.State.{miscountedIn, misblocked}
 use Rattle.score.specs.Order.{scoreOrder}
 use Rattle.score.specs.Sample.{minus-zero-first}
 use Rattle.score.specs.declared.Ordering.the-variants.{Less}
+use Rattle.slot_lists.specs.Held.{misheld}
 use Rattle.slot_lists.specs.Lists.{leftBy}
 use Rattle.slot_lists.specs.Walk.{carried, visit}
+use Rattle.mip_flow_static_data.specs.Nodes.{supplies}
+use Rattle.mip_flow.specs.Edges.{preferenceOf, isOpen, slotSeats, chooserSeats, openSeats, scheduled}
+use Rattle.mip_flow.specs.Index.{numberFrom, edgeOf}
+use Rattle.mip_flow.specs.declared.Lengths.{Lengths}
+use Rattle.edge_groups.specs.Groups.{each, allThere}
+use Rattle.edge_groups.specs.Names.{slotNames, sameChoicesNames, constraintNames, constraintsNames, dependentNames, names}
+use Rattle.edge_values.specs.Decode.{choiceFor, decoded}
+use Rattle.edge_values.specs.Values.{someOutside, someUsed, someUneven, flow, someUnbalanced, valuesNumber}
+use Rattle.plans.specs.Model.{ModelInput, modelInput, seatsOf, choicesOf, namesOf, networkOf, planOf, checkNumber}
 use Rattle.seating.specs.Scores.{score}
 
 abbrev pub noConstraints : ConstraintList
@@ -70,16 +83,70 @@ listOf x s = slotListIn fullDay sampleDay (x .state) s (x .lists)
 abbrev pub afterMove : Carried
 afterMove = record { schedule = moved; state = updatedState sampleDay moved; lists = updatedLists fullDay sampleDay (built .state) moved (built .lists) }
 
+-- preferences 0 1 0 and 0 2 1. Document 01 gives no costs: these are cubes.
+abbrev pub preferences : List ℕ
+preferences = 0 ∷ 1 ∷ 0 ∷ 0 ∷ 2 ∷ 1 ∷ []
+
+abbrev pub costs : List ℤ
+costs = pos 1 ∷ pos 8 ∷ pos 27 ∷ []
+
+-- what a model is made from at limit 1, of the sample day and of one with a constraint
+abbrev pub atLimitOne : InputData → ModelInput
+atLimitOne d = modelInput d (builtState d atFirst) 1 preferences costs (builtLists fullDay d atFirst buffer)
+
+-- ChoosersHaveSameChoices of choosers 0 and 1
+abbrev pub sameChoices : ConstraintNumbers
+sameChoices = record { kind = 65539; left = 0; «target_case» = 3; target = 1; «extra_case» = 0; extra = pos 0 }
+
+abbrev pub tiedDay : InputData
+tiedDay = record {
+  choosers = 2;
+  choices = 3;
+  slots = 2;
+  «max_preference» = 2;
+  mins = sampleDay .mins;
+  maxs = sampleDay .maxs;
+  optional = sampleDay .optional;
+  scheduling = noConstraints;
+  assignment = record { count = 1; entries = sameChoices ∷ replicate 31 noNumbers };
+  groups = 0;
+  lengths = sampleDay .lengths;
+  members = sampleDay .members;
+}
+
+-- buffers of exactly their named lengths
+abbrev pub named : Lengths
+named = record { supplies = 552; from = 2080; to = 2080; max = 2080; cost = 2080; entries = 4096; ends = 2048; blocked = 4096 }
+
+-- edges 0 to 5 have 0 1 1 1 1 0, edge 6 has v, edge 7 has 0, and nothing is behind them
+abbrev pub valued : ℕ → List ℤ
+valued v = pos 0 ∷ pos 1 ∷ pos 1 ∷ pos 1 ∷ pos 1 ∷ pos 0 ∷ pos v ∷ pos 0 ∷ replicate 2072 (pos 0)
+
+-- the number that these values get
+abbrev pub numberOf : ℕ → ℕ
+numberOf v = checkNumber fullDay (atLimitOne sampleDay) named (valued v) 512
+
 -- ---- the list of rows
 
 abbrev pub rows : List (Type 0)
 rows =
-    -- covered is 1, 2
-    (take 2 (built .state .covered) ≡ 1 ∷ 2 ∷ [])
-    -- choice 0 moved to slot 1: lists 1 and 2 0; covered 0, 3
-    ∷ ((listOf afterMove 0 ≡ 1 ∷ []) × (listOf afterMove 1 ≡ 2 ∷ 0 ∷ []) × (take 2 (afterMove .state .covered) ≡ 0 ∷ 3 ∷ []))
-    -- afresh: 1 and 0 2
-    ∷ ((listOf (first sampleDay moved buffer) 0 ≡ 1 ∷ []) × (listOf (first sampleDay moved buffer) 1 ≡ 0 ∷ 2 ∷ []))
+    -- covered is 1, 2; supplies are 1 1 1 1 -1 0 -2 -1 0
+    ((take 2 (built .state .covered) ≡ 1 ∷ 2 ∷ [])
+    × (networkOf fullDay (atLimitOne sampleDay) .supplies ≡ pos 1 ∷ pos 1 ∷ pos 1 ∷ pos 1 ∷ negsuc 0 ∷ pos 0 ∷ negsuc 1 ∷ negsuc 0 ∷ pos 0 ∷ []))
+    -- limit 1 has 8 edges: 0 to 4, 0 to 5, 1 to 6, 2 to 4, 3 to 6, 4 to 7, 5 to 7, 6 to 8
+    ∷ ((networkOf fullDay (atLimitOne sampleDay) .from ≡ 0 ∷ 0 ∷ 1 ∷ 2 ∷ 3 ∷ 4 ∷ 5 ∷ 6 ∷ [])
+    × (networkOf fullDay (atLimitOne sampleDay) .to ≡ 4 ∷ 5 ∷ 6 ∷ 4 ∷ 6 ∷ 7 ∷ 7 ∷ 8 ∷ []))
+    -- values 0 1 1 1 1 0 1 0 decode to rows 1 2 and 0 2
+    ∷ ((numberOf 1 ≡ 0) × (planOf fullDay (atLimitOne sampleDay) (valued 1) ≡ 1 ∷ 2 ∷ 0 ∷ 2 ∷ []))
+    -- edge 6 given 3: 14
+    ∷ (numberOf 3 ≡ 14)
+    -- edge 6 given 0: 17
+    ∷ (numberOf 0 ≡ 17)
+    -- ChoosersHaveSameChoices of 0 and 1: groups {0,3}, {2,4}; blocked 1
+    ∷ ((networkOf fullDay (atLimitOne tiedDay) .groups ≡ (0 ∷ 3 ∷ []) ∷ (2 ∷ 4 ∷ []) ∷ []) × (networkOf fullDay (atLimitOne tiedDay) .blocked ≡ 1 ∷ []))
+    -- choice 0 moved to slot 1: lists 1 and 2 0; covered 0, 3. Afresh: 1 and 0 2
+    ∷ ((listOf afterMove 0 ≡ 1 ∷ []) × (listOf afterMove 1 ≡ 2 ∷ 0 ∷ []) × (take 2 (afterMove .state .covered) ≡ 0 ∷ 3 ∷ [])
+    × (listOf (first sampleDay moved buffer) 0 ≡ 1 ∷ []) × (listOf (first sampleDay moved buffer) 1 ≡ 0 ∷ 2 ∷ []))
     -- with equal majors, minor -0.0 is less than +0.0
     ∷ (scoreOrder (score (fin false 1 (pos 0)) (fin true 0 (pos 0))) (score (fin false 1 (pos 0)) (fin false 0 (pos 0))) ≡ Less)
     ∷ []
@@ -89,40 +156,19 @@ abbrev pub All : List (Type 0) → Type 0
 All [] = Unit {0}
 All (r ∷ rs) = r × All rs
 
+-- each number is computed by itself: together they are too much for one computation
+accepted-values : numberOf 1 ≡ 0
+unfolding stateNumber dayNumber lateNumber firstOf badPreferences badCosts memberCount misheld miscountedIn misblocked networkOf supplies seatsOf choicesOf openSeats chooserSeats slotSeats isOpen preferenceOf scheduled namesOf names constraintsNames dependentNames each valuesNumber someOutside someUsed someUneven someUnbalanced flow eqZ foldTo carried visit leftBy blockedBy someBelow
+accepted-values = refl
+
+above-max : numberOf 3 ≡ 14
+unfolding stateNumber dayNumber lateNumber firstOf badPreferences badCosts memberCount misheld miscountedIn misblocked networkOf supplies seatsOf choicesOf openSeats chooserSeats slotSeats isOpen preferenceOf scheduled namesOf names constraintsNames dependentNames each valuesNumber someOutside someUsed someUneven someUnbalanced flow eqZ foldTo carried visit leftBy blockedBy someBelow
+above-max = refl
+
+out-of-balance : numberOf 0 ≡ 17
+unfolding stateNumber dayNumber lateNumber firstOf badPreferences badCosts memberCount misheld miscountedIn misblocked networkOf supplies seatsOf choicesOf openSeats chooserSeats slotSeats isOpen preferenceOf scheduled namesOf names constraintsNames dependentNames each valuesNumber someOutside someUsed someUneven someUnbalanced flow eqZ foldTo carried visit leftBy blockedBy someBelow
+out-of-balance = refl
+
 pub sample-day : All rows
-unfolding foldTo firstTo carried visit leftBy
-sample-day = (refl, ((refl, refl, refl), ((refl, refl), (minus-zero-first, tt))))
-
--- ---- a run that the theorem on carried states speaks of: a build, an accepted move, a refused call handed another day, and the way back
-
-pub accepted : buildNumber fullDay sampleDay atFirst (length buffer) ≡ 0
-unfolding buildNumber dayNumber lateNumber firstOf someBelow foldTo memberCount
-accepted = refl
-
--- 65 choosers
-abbrev wrong : Call
-wrong = record { day = record { choosers = 65; choices = 3; slots = 2; «max_preference» = 2; mins = []; maxs = []; optional = []; scheduling = noConstraints; assignment = noConstraints; groups = 0; lengths = []; members = [] }; state = built .state; schedule = atFirst; lists = [] }
-
-refused-by-1 : updateNumber fullDay (wrong .day) (wrong .state) (wrong .schedule) (wrong .lists) ≡ 1
-unfolding updateNumber dayNumber firstOf
-refused-by-1 = refl
-
-abbrev x₂ : Carried
-x₂ = after (after built move) wrong
-
-abbrev back : Call
-back = record { day = sampleDay; state = x₂ .state; schedule = atFirst; lists = x₂ .lists }
-
-abbrev pub calls : List Call
-calls = move ∷ wrong ∷ back ∷ []
-
-fed : Fed sampleDay built calls
-fed = ((λ e. (refl, refl, refl)), ((λ e. absurd (let z : _≡_ {A = ℕ} 1 0 = sym refused-by-1 ∙ e in omega arith)), ((λ e. (refl, refl, refl)), tt)))
-
-pub sample-run : AsFresh sampleDay (run built calls) buffer
-sample-run = carried-agrees sampleDay atFirst buffer accepted calls fed buffer (omega arith)
-
--- the move is accepted
-pub move-accepted : updateNumber fullDay sampleDay (built .state) moved (built .lists) ≡ 0
-unfolding firstOf someBelow foldTo
-move-accepted = carried-agrees sampleDay atFirst buffer accepted [] tt buffer (omega arith) .next moved
+unfolding kindOf networkOf supplies seatsOf choicesOf openSeats chooserSeats slotSeats isOpen preferenceOf scheduled numberFrom edgeOf namesOf names constraintsNames constraintNames sameChoicesNames slotNames dependentNames each allThere eqZ planOf decoded choiceFor foldTo firstTo carried visit leftBy blockedBy someBelow
+sample-day = ((refl, refl), ((refl, refl), ((accepted-values, refl), (above-max, (out-of-balance, ((refl, refl), ((refl, refl, refl, refl, refl), (minus-zero-first, tt))))))))

@@ -1,4 +1,5 @@
 // The exported C entries: numbers and slices in, numbers out. include/cendravoka.h declares them.
 pub mod constraints;
+pub mod models;
 pub mod scores;
 pub mod states;

@@ -40,8 +40,12 @@ leftBy stride s len k l = cond (ltb (placeOf stride s len k l) len) (set l (stri
 pub enter-in-part : (a e j : ℕ) (l : List ℕ) (v : ℕ) → a + j < e → e ≤ length l → putMid a (e - a) l (set (midOf a (e - a) l) j v) ≡ set l (a + j) v
 enter-in-part a e j l v h k = set-mid-at a (e - a) j l v (simp (length-take, length-drop) (omega arith))
 
+-- a part of a buffer: n elements from a on
 module _ (a n : ℕ) (l : List ℕ) where
-  part-at : (j : ℕ) → j < n → getD (midOf a n l) j 0 ≡ getD l (a + j) 0
+  pub part-length : a + n ≤ length l → length (take n (drop a l)) ≡ n
+  part-length h = simp (length-take, length-drop) (omega arith)
+
+  pub part-at : (j : ℕ) → j < n → getD (take n (drop a l)) j 0 ≡ getD l (a + j) 0
   part-at j h = getD-take n (drop a l) j 0 h ∙ getD-drop a l j 0
 
   pub part-place : (len k : ℕ) → len ≤ n → firstTo len (isEntry (midOf a n l) k) ≡ firstTo len (λ j. eqb (getD l (a + j) 0) k)

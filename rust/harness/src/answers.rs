@@ -5,7 +5,10 @@ use crate::constraint::Constraint;
 use crate::day::{CHOICES, CHOOSERS, Day, SLOTS};
 use crate::panics::caught;
 use crate::state::blocks_of;
-use port::{BestAnswer, NegationAnswer, ScheduleState, Scheduling, Score, StateAnswer};
+use oracle::Record;
+use port::{
+    BestAnswer, ModelAnswer, NegationAnswer, ScheduleState, Scheduling, Score, StateAnswer,
+};
 use std::cmp::Ordering;
 
 /// A major and a minor.
@@ -80,4 +83,20 @@ pub fn refused_state(number: u32) -> StateAnswer {
     let schedule = Scheduling { entries: [0; CHOICES] };
     let blocks = [false; CHOOSERS * CHOICES];
     StateAnswer { number, state: ScheduleState { schedule, covered: [0; SLOTS], blocks } }
+}
+
+/// How much there is of the model that the Rust hands its solver.
+pub fn model(model: &Record) -> ModelAnswer {
+    ModelAnswer {
+        number: 0,
+        edges: model.edges.len(),
+        entries: model.groups.iter().map(Vec::len).sum(),
+        groups: model.groups.len(),
+        blocked: model.blocked.len(),
+    }
+}
+
+/// A number and zeros.
+pub fn refused_model(number: u32) -> ModelAnswer {
+    ModelAnswer { number, ..model(&Record::default()) }
 }

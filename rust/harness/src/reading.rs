@@ -271,21 +271,23 @@ fn wrong_plan(handed: &Handed, day: &Day) -> bool {
 
 /// The number that refuses these edge values, 14 to 17, or 0.
 pub fn values_number(model: &Record, values: &[i32]) -> u32 {
+    values_faults(model, values).first().copied().unwrap_or(0)
+}
+
+/// Every number of 14 to 17 that applies to these edge values, in order. Those
+/// past the last edge are not read.
+pub fn values_faults(model: &Record, values: &[i32]) -> Vec<u32> {
     let mut edges = model.edges.iter().zip(values);
     let differs = |group: &Vec<usize>| group.iter().any(|&edge| values[edge] != values[group[0]]);
     let sum = |edges: &[usize]| edges.iter().map(|&edge| i64::from(values[edge])).sum::<i64>();
     let unbalanced = |node: usize| {
         sum(&model.outgoing[node]) - sum(&model.incoming[node]) != i64::from(model.supply[node])
     };
-    if edges.any(|(edge, value)| !(0..=edge.max).contains(value)) {
-        14
-    } else if model.blocked.iter().any(|&edge| values[edge] != 0) {
-        15
-    } else if model.groups.iter().any(differs) {
-        16
-    } else if (0..model.supply.len()).any(unbalanced) {
-        17
-    } else {
-        0
-    }
+    let checks = [
+        (14, edges.any(|(edge, value)| !(0..=edge.max).contains(value))),
+        (15, model.blocked.iter().any(|&edge| values[edge] != 0)),
+        (16, model.groups.iter().any(differs)),
+        (17, (0..model.supply.len()).any(unbalanced)),
+    ];
+    checks.iter().filter(|(_, applies)| *applies).map(|(number, _)| *number).collect()
 }

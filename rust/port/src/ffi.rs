@@ -101,6 +101,17 @@ pub struct SlotListAnswer {
     pub length: usize,
 }
 
+/// How much of a model stands in its buffers.
+#[repr(C)]
+#[derive(Debug, Clone, Copy, PartialEq, Eq)]
+pub struct ModelAnswer {
+    pub number: u32,
+    pub edges: usize,
+    pub entries: usize,
+    pub groups: usize,
+    pub blocked: usize,
+}
+
 unsafe extern "C" {
     pub fn cendravoka_build(
         day: InputData,
@@ -122,6 +133,64 @@ unsafe extern "C" {
         lists_length: usize,
         slot: usize,
     ) -> SlotListAnswer;
+    pub fn cendravoka_model(
+        day: InputData,
+        state: ScheduleState,
+        limit: u32,
+        preferences: *const u32,
+        preferences_length: usize,
+        costs: *const i64,
+        costs_length: usize,
+        lists: *const u8,
+        lists_length: usize,
+        supplies: *mut i32,
+        supplies_length: usize,
+        from: *mut u16,
+        from_length: usize,
+        to: *mut u16,
+        to_length: usize,
+        max: *mut u32,
+        max_length: usize,
+        cost: *mut i64,
+        cost_length: usize,
+        entries: *mut u16,
+        entries_length: usize,
+        ends: *mut u16,
+        ends_length: usize,
+        blocked: *mut u16,
+        blocked_length: usize,
+    ) -> ModelAnswer;
+    pub fn cendravoka_check_values(
+        day: InputData,
+        state: ScheduleState,
+        limit: u32,
+        preferences: *const u32,
+        preferences_length: usize,
+        costs: *const i64,
+        costs_length: usize,
+        lists: *const u8,
+        lists_length: usize,
+        values: *const i32,
+        values_length: usize,
+        supplies: *mut i32,
+        supplies_length: usize,
+        from: *mut u16,
+        from_length: usize,
+        to: *mut u16,
+        to_length: usize,
+        max: *mut u32,
+        max_length: usize,
+        cost: *mut i64,
+        cost_length: usize,
+        entries: *mut u16,
+        entries_length: usize,
+        ends: *mut u16,
+        ends_length: usize,
+        blocked: *mut u16,
+        blocked_length: usize,
+        plan: *mut u8,
+        plan_length: usize,
+    ) -> ModelAnswer;
     pub safe fn cendravoka_negation(
         kind: u32,
         left: u32,

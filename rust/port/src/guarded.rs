@@ -2,16 +2,22 @@
 //! byte in them and around them can be compared afterwards.
 use std::fmt;
 use std::mem::size_of;
+use std::sync::LazyLock;
 
 /// Elements of each guard zone.
 const ZONE: usize = 256;
 
+/// The most elements of a patterned buffer.
+const LONGEST: usize = 8_192;
+
 /// A number of which a buffer can be made.
-pub trait Element: Copy + PartialEq + fmt::Debug {
+pub trait Element: Copy + PartialEq + fmt::Debug + 'static {
     /// The bytes as they lie in memory.
     fn bytes(self) -> Vec<u8>;
     /// The number that has these bytes in memory.
     fn of_bytes(bytes: &[u8]) -> Self;
+    /// The pattern of guard zones and new buffers, made once.
+    fn pattern() -> &'static [Self];
 }
 
 macro_rules! elements {
@@ -22,6 +28,10 @@ macro_rules! elements {
             }
             fn of_bytes(bytes: &[u8]) -> Self {
                 Self::from_ne_bytes(bytes.try_into().expect("as many bytes as the number has"))
+            }
+            fn pattern() -> &'static [Self] {
+                static PATTERN: LazyLock<Vec<$number>> = LazyLock::new(|| pattern(LONGEST));
+                &PATTERN
             }
         })*
     };
@@ -42,20 +52,28 @@ pub enum Change {
 pub struct Guarded<T> {
     cells: Vec<T>,
     contents: Vec<T>,
-    zone: Vec<T>,
 }
 
 impl<T: Element> Guarded<T> {
     /// A buffer that holds `contents`.
     pub fn holding(contents: &[T]) -> Self {
-        let zone = pattern(ZONE);
-        let cells = [&zone, contents, &zone].concat();
-        Self { cells, contents: contents.to_vec(), zone }
+        let cells = [zone(), contents, zone()].concat();
+        Self { cells, contents: contents.to_vec() }
     }
 
     /// A buffer of this length, filled with the pattern of the guard zones.
+    ///
+    /// # Panics
+    ///
+    /// Panics if there is no pattern of this length.
     pub fn patterned(length: usize) -> Self {
-        Self::holding(&pattern(length))
+        Self::holding(&T::pattern()[..length])
+    }
+
+    /// Puts back what the buffer was made with. The zones stay as they are.
+    pub fn reset(&mut self) {
+        let end = self.cells.len() - ZONE;
+        self.cells[ZONE..end].copy_from_slice(&self.contents);
     }
 
     /// The buffer, to be lent to a call.
@@ -84,11 +102,16 @@ impl<T: Element> Guarded<T> {
         assert_eq!(wanted.len(), self.contents.len());
         let (before, rest) = self.cells.split_at(ZONE);
         let (inside, after) = rest.split_at(wanted.len());
-        first_difference(before, &self.zone)
+        first_difference(before, zone())
             .map(Change::Before)
-            .or_else(|| first_difference(after, &self.zone).map(Change::After))
+            .or_else(|| first_difference(after, zone()).map(Change::After))
             .or_else(|| first_difference(inside, wanted).map(Change::Inside))
     }
+}
+
+/// What stands in a guard zone.
+fn zone<T: Element>() -> &'static [T] {
+    &T::pattern()[..ZONE]
 }
 
 /// Bytes that count up from C3 in steps of 29: no zeros, no run of equal bytes,
@@ -105,6 +128,10 @@ fn pattern<T: Element>(length: usize) -> Vec<T> {
 
 /// The first byte in which the two differ.
 fn first_difference<T: Element>(left: &[T], right: &[T]) -> Option<usize> {
+    // Whole slices compare much faster than one element after the other.
+    if left == right {
+        return None;
+    }
     let cell = left.iter().zip(right).position(|(left, right)| left != right)?;
     let (left, right) = (left[cell].bytes(), right[cell].bytes());
     let byte = left.iter().zip(&right).position(|(left, right)| left != right);
@@ -155,5 +182,7 @@ mod tests {
         assert_eq!(buffer.now(), [3, 5]);
         assert_eq!(buffer.changed(), Some(Change::Inside(8)));
         assert_eq!(buffer.differs_from(&[3, 5]), None);
+        buffer.reset();
+        assert_eq!(buffer.changed(), None);
     }
 }

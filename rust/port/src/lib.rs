@@ -8,8 +8,8 @@ mod ffi;
 pub mod guarded;
 
 pub use ffi::{
-    BestAnswer, Constraint, ConstraintList, InputData, NegationAnswer, ScheduleState, Scheduling,
-    Score, SlotListAnswer, StateAnswer,
+    BestAnswer, Constraint, ConstraintList, InputData, ModelAnswer, NegationAnswer, ScheduleState,
+    Scheduling, Score, SlotListAnswer, StateAnswer,
 };
 use std::fmt;
 
@@ -63,6 +63,93 @@ pub fn slot_list(
 ) -> SlotListAnswer {
     // SAFETY: as in `build`; the entry only reads the slice.
     unsafe { ffi::cendravoka_slot_list(*day, *state, lists.as_ptr(), lists.len(), slot) }
+}
+
+/// What is lent to be read for a model: two tables of the day and the slot lists
+/// of the state.
+#[derive(Debug, Clone, Copy)]
+pub struct ModelTables<'a> {
+    pub preferences: &'a [u32],
+    pub costs: &'a [i64],
+    pub lists: &'a [u8],
+}
+
+/// The buffers that a model is written into.
+#[derive(Debug)]
+pub struct ModelBuffers<'a> {
+    pub supplies: &'a mut [i32],
+    pub from: &'a mut [u16],
+    pub to: &'a mut [u16],
+    pub max: &'a mut [u32],
+    pub cost: &'a mut [i64],
+    pub entries: &'a mut [u16],
+    pub ends: &'a mut [u16],
+    pub blocked: &'a mut [u16],
+}
+
+/// The flow model of a state at a preference limit.
+#[allow(unsafe_code)]
+pub fn model(
+    day: &InputData,
+    state: &ScheduleState,
+    limit: u32,
+    tables: ModelTables,
+    buffers: ModelBuffers,
+) -> ModelAnswer {
+    // SAFETY: as in `build`, for each slice; the tables are only read.
+    #[rustfmt::skip] // A slice a line.
+    let answer = unsafe {
+        ffi::cendravoka_model(
+            *day, *state, limit,
+            tables.preferences.as_ptr(), tables.preferences.len(),
+            tables.costs.as_ptr(), tables.costs.len(),
+            tables.lists.as_ptr(), tables.lists.len(),
+            buffers.supplies.as_mut_ptr(), buffers.supplies.len(),
+            buffers.from.as_mut_ptr(), buffers.from.len(),
+            buffers.to.as_mut_ptr(), buffers.to.len(),
+            buffers.max.as_mut_ptr(), buffers.max.len(),
+            buffers.cost.as_mut_ptr(), buffers.cost.len(),
+            buffers.entries.as_mut_ptr(), buffers.entries.len(),
+            buffers.ends.as_mut_ptr(), buffers.ends.len(),
+            buffers.blocked.as_mut_ptr(), buffers.blocked.len(),
+        )
+    };
+    answer
+}
+
+/// Whether the model of a state at a preference limit accepts these edge values,
+/// and the plan that they stand for.
+#[allow(unsafe_code)]
+pub fn check_values(
+    day: &InputData,
+    state: &ScheduleState,
+    limit: u32,
+    tables: ModelTables,
+    values: &[i32],
+    buffers: ModelBuffers,
+    plan: &mut [u8],
+) -> ModelAnswer {
+    // SAFETY: as in `model`; the values are only read too.
+    #[rustfmt::skip] // A slice a line.
+    let answer = unsafe {
+        ffi::cendravoka_check_values(
+            *day, *state, limit,
+            tables.preferences.as_ptr(), tables.preferences.len(),
+            tables.costs.as_ptr(), tables.costs.len(),
+            tables.lists.as_ptr(), tables.lists.len(),
+            values.as_ptr(), values.len(),
+            buffers.supplies.as_mut_ptr(), buffers.supplies.len(),
+            buffers.from.as_mut_ptr(), buffers.from.len(),
+            buffers.to.as_mut_ptr(), buffers.to.len(),
+            buffers.max.as_mut_ptr(), buffers.max.len(),
+            buffers.cost.as_mut_ptr(), buffers.cost.len(),
+            buffers.entries.as_mut_ptr(), buffers.entries.len(),
+            buffers.ends.as_mut_ptr(), buffers.ends.len(),
+            buffers.blocked.as_mut_ptr(), buffers.blocked.len(),
+            plan.as_mut_ptr(), plan.len(),
+        )
+    };
+    answer
 }
 
 /// `Constraint::negation`.

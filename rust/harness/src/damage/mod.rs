@@ -106,6 +106,14 @@ pub fn of_states() -> Vec<&'static Damage> {
     by_number(&[days::DAMAGES, lent::DAMAGES])
 }
 
+/// Damage to what the two calls on models are handed, by number. They have no
+/// use for preference levels.
+pub fn of_models() -> Vec<&'static Damage> {
+    let mut damages = by_number(&[days::DAMAGES, tables::DAMAGES, lent::DAMAGES]);
+    damages.retain(|damage| damage.number != 5);
+    damages
+}
+
 fn by_number(lists: &[&'static [Damage]]) -> Vec<&'static Damage> {
     let mut damages = lists.iter().flat_map(|list| list.iter()).collect::<Vec<_>>();
     damages.sort_by_key(|damage| damage.number);

@@ -7,9 +7,11 @@ mod constants;
 mod generator;
 mod header;
 mod is_finite;
+pub mod model;
 pub mod negation;
 mod reading;
 mod records;
+mod refused;
 mod sample;
 mod state;
 
@@ -28,4 +30,7 @@ pub const SUITES: &[Suite] = &[
     ("generator", generator::run),
     ("state", state::run),
     ("state_refusals", state::refusals::run),
+    ("model", model::run),
+    ("values", model::values::run),
+    ("model_refusals", model::refusals::run),
 ];

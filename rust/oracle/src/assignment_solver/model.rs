@@ -1,8 +1,9 @@
 //! The model that `solve_with_limit` makes of the carried state, and its
 //! decoding of given edge values.
 use super::LimitSolveResult;
-use super::state::Solver;
+use super::state::{Carried, Solver};
 use crate::Plan;
+use crate::stand_in::clock::{self, DEADLINE};
 use good_lp::control::{self, Mode};
 use good_lp::Record;
 
@@ -17,6 +18,15 @@ impl Solver<'_> {
             Mode::Keep(Some(model)) => model,
             _ => unreachable!("the model was kept"),
         }
+    }
+
+    /// `solve_with_limit` as far as it goes when no time is left for the solver:
+    /// the model is put together and dropped.
+    pub fn lay_out(&mut self, state: &Carried, limit: u32) {
+        // Its second look at the clock is the one before the solver.
+        clock::late_after(1);
+        let result = self.0.solve_with_limit(&state.0, limit, Some(DEADLINE));
+        assert!(matches!(result, LimitSolveResult::Incomplete));
     }
 
     /// The Rust's decoding of these values. It panics where some chooser has no

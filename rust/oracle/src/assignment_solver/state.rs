@@ -26,7 +26,7 @@ impl From<&AssignmentScheduleState> for State {
 }
 
 /// A schedule state as the original keeps it.
-pub struct Carried(AssignmentScheduleState);
+pub struct Carried(pub(super) AssignmentScheduleState);
 
 impl Carried {
     pub fn state(&self) -> State {
@@ -58,6 +58,12 @@ impl Solver<'_> {
     /// `update_schedule_state`.
     pub fn update(&self, previous: &Carried, scheduling: &Scheduling) -> Carried {
         Carried(self.0.update_schedule_state(&previous.0, scheduling))
+    }
+
+    /// Puts the slot lists of the carried state into another order.
+    pub fn reorder(&mut self, lists: Vec<Vec<usize>>) {
+        let carried = self.0.cached_schedule_state.as_mut();
+        carried.expect("a schedule has been prepared").scheduled_choices_by_slot = lists;
     }
 
     /// The schedule as the original keeps it.

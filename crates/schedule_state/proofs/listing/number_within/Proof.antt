@@ -1,71 +1,25 @@
-use mathlib.Core.Path.{sym, _∙_}
 use lib.Dec.{leb}
 use lib.ListN.{length}
-use Rattle.counting.specs.Tests.{so}
-use Rattle.schedule_state.specs.Calls.{besideLists, slotListNumber}
-use Rattle.schedule_state.specs.Good.{ReadyState, holdable}
-use Rattle.schedule_state.specs.Numbers.{number-refused, number-else, first-applies, first-not, ready-of}
+use Rattle.schedule_state.specs.Numbers.{handed-lists}
 use borrow.Author.Needs.{needs}
 use Rattle.schedule_state.proofs.listing.number_within.Statement.{statement}
 use Rattle.schedule_state.proofs.listing.number_within.Tie as tie
 use Rattle.schedule_state.proofs.listing.number_within.Reads as reads
 use Rattle.schedule_state.proofs.listing.number_within.Lts as lts
-use Rattle.input_data.proofs.day_number.Reads as day-number-reads
-use Rattle.input_data.proofs.first.Reads as first-reads
+use Rattle.schedule_state.proofs.listing.state_number.Reads as state-number-reads
 use Rattle.schedule_state.proofs.state.beside.Reads as beside-reads
-use Rattle.schedule_state.proofs.state.is_inconsistent.Reads as is-inconsistent-reads
-use Rattle.scheduling.proofs.bad_slots.Reads as bad-slots-reads
-use Rattle.scheduling.proofs.kept.Reads as kept-reads
 
--- src/listing.rt:30:54
+-- src/listing.rt:70:9
 beside-requires : tie.Need-beside-requires
 beside-requires c κs = search needs
 
--- src/listing.rt:30:9
-day-number-requires : tie.Need-day-number-requires
-day-number-requires c κs = search needs
+-- src/listing.rt:71:5
+state-number-requires : tie.Need-state-number-requires
+state-number-requires c κs = let a = c .before .before .before .args in rw (c .beside .ensures) (handed-lists (a .limits) (length (a .lists .now)) (leb (a .day .slots) (a .slot)) (c .before .before .before .pre))
 
--- src/listing.rt:32:9
+-- src/listing.rt:60:1
 returns : tie.Need-returns
-unfolding slotListNumber
-returns c = let a = c .before .before .before .before .before .args in number-refused (a .limits) (a .day) (besideLists (a .limits) (length (a .lists .now)) (leb (a .day .slots) (a .slot))) _ (rw (c .before .before .beside .ensures) at (c .before .day-number .ensures)) (c .if1 .taken)
-
--- src/listing.rt:34:8
-bad-slots-requires : tie.Need-bad-slots-requires
-bad-slots-requires c κs = search needs
-
--- src/listing.rt:35:9
-returns-2 : tie.Need-returns-2
-unfolding slotListNumber
-returns-2 c = let a = c .before .before .before .before .before .before .before .before .before .args in number-else (a .limits) (a .day) (besideLists (a .limits) (length (a .lists .now)) (leb (a .day .slots) (a .slot))) _ (rw (c .before .before .before .before .before .before .beside .ensures) at (c .before .before .before .before .before .day-number .ensures)) (c .before .before .before .before .if1 .left) (first-applies _ 11 _ (so (c .before .bad-slots .ensures) (c .if2 .taken)))
-
--- src/listing.rt:37:9
-kept-requires : tie.Need-kept-requires
-kept-requires c κs = search needs
-
--- src/listing.rt:46:9
-is-inconsistent-requires : tie.Need-is-inconsistent-requires
-is-inconsistent-requires c κs = let a = c .before .before .before .before .before .before .before .before .before .before .before .before .before .before .before .before .args in let r : ReadyState (a .limits) (a .day) (a .t3) (length (a .lists .now)) = record { ready = ready-of (a .limits) (a .day) (length (a .lists .now)) (leb (a .day .slots) (a .slot)) 0 (c .before .before .before .before .before .before .before .before .before .before .before .before .before .before .before .before .pre) (sym (rw (c .before .before .before .before .before .before .before .before .before .before .before .before .before .beside .ensures) at (c .before .before .before .before .before .before .before .before .before .before .before .before .day-number .ensures)) ∙ c .before .before .before .before .before .before .before .before .before .before .before .if1 .left); inside = so (c .before .before .before .before .before .before .before .before .bad-slots .ensures) (c .before .before .before .before .before .before .before .if2 .left) } in rw (c .before .before .before .before .kept .ensures) (holdable r)
-
--- src/listing.rt:55:5
-first-requires : tie.Need-first-requires
-first-requires c κs = search needs
-
--- src/listing.rt:19:1
-returns-3 : tie.Need-returns-3
-unfolding slotListNumber
-returns-3 c = let a = c .before .before .before .before .before .before .before .before .before .before .before .before .before .before .before .before .before .before .args in number-else (a .limits) (a .day) (besideLists (a .limits) (length (a .lists .now)) (leb (a .day .slots) (a .slot))) _ (rw (c .before .before .before .before .before .before .before .before .before .before .before .before .before .before .before .beside .ensures) at (c .before .before .before .before .before .before .before .before .before .before .before .before .before .before .day-number .ensures)) (c .before .before .before .before .before .before .before .before .before .before .before .before .before .if1 .left) (first-not _ 11 _ (so (c .before .before .before .before .before .before .before .before .before .before .bad-slots .ensures) (c .before .before .before .before .before .before .before .before .before .if2 .left)) (rw (c .before .is-inconsistent .ensures, c .before .before .before .before .before .before .kept .ensures) at (c .first .ensures)))
+returns c = rw (c .before .beside .ensures) at (c .state-number .ensures)
 
 pub number-within-spec : {M : Type 1} → statement M
-number-within-spec =
-    tie.close
-    (tie.spec
-    beside-requires
-    day-number-requires
-    returns
-    bad-slots-requires
-    returns-2
-    kept-requires
-    is-inconsistent-requires
-    first-requires
-    returns-3)
+number-within-spec = tie.close (tie.spec beside-requires state-number-requires returns)

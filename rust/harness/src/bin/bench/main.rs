@@ -1,6 +1,7 @@
 //! Times the port beside the Rust and prints a table.
 #![forbid(unsafe_code)]
 
+mod models;
 mod states;
 
 use harness::answers::{self, Pair};
@@ -44,6 +45,10 @@ const ROWS: &[(&str, Row)] = &[
     ("update, all choices moved, 32 + 32", states::update_all::<32>),
     ("slot_list", states::slot_list::<0>),
     ("slot_list, 32 + 32 constraints", states::slot_list::<32>),
+    ("model", models::model::<0>),
+    ("model, 32 + 32 constraints", models::model::<32>),
+    ("check_values", models::check_values::<0>),
+    ("check_values, 32 + 32 constraints", models::check_values::<32>),
 ];
 
 fn main() {
@@ -52,7 +57,11 @@ fn main() {
         "them in a round, {DAY_INPUTS} of calls on a full-size day, port and Rust in turn, the"
     );
     println!("median of {ROUNDS} rounds. The port tests its input and is called through its");
-    println!("exported entries.");
+    println!(
+        "exported entries. Models are {} in a round. Beside check_values stands",
+        models::INPUTS
+    );
+    println!("the Rust's model, since the Rust does not test the values of its solver.");
     println!("{:<36}{:>10}{:>10}{:>8}", "call", "port ns", "Rust ns", "ratio");
     for (call, timers) in ROWS {
         let mut random = Random::of_case(1, call, 0);

@@ -7,21 +7,25 @@ use harness::random::Random;
 use harness::schedule::Schedule;
 use harness::state::LISTS;
 use harness::{answers, boundary, bridge};
-use oracle::{Carried, Solver};
+use oracle::{Carried, Problem, Solver};
 use port::{InputData, Scheduling, StateAnswer};
 use std::hint::black_box;
 
 /// A day in the form that each side takes.
-struct Scene {
-    day: Day,
-    port: InputData,
-    rust: Solver<'static>,
+pub struct Scene {
+    pub day: Day,
+    pub port: InputData,
+    pub problem: &'static Problem,
+    pub rust: Solver<'static>,
 }
 
 impl Scene {
-    fn new(random: &mut Random, constraints: usize) -> Self {
+    pub fn new(random: &mut Random, constraints: usize) -> Self {
         let mut day = Day::bare(CHOOSERS, CHOICES, SLOTS);
         day.mins.fill(2);
+        day.max_preference = 5;
+        day.preferences = (0..CHOOSERS * CHOICES).map(|place| (place * 7 % 6) as u32).collect();
+        day.fill_tables();
         for _ in 0..constraints {
             let (scheduling, assignment) =
                 (random_scheduling(random, &day), random_assignment(random, &day));
@@ -31,11 +35,11 @@ impl Scene {
         let port = boundary::day(random, &day);
         // A solver borrows its problem, and timers keep it to the end.
         let problem = Box::leak(Box::new(bridge::problem(&day)));
-        Self { day, port, rust: problem.solver() }
+        Self { day, port, problem, rust: problem.solver() }
     }
 
     /// A schedule in the form that each side takes.
-    fn schedule(&self, schedule: &Schedule) -> (Scheduling, oracle::Scheduling) {
+    pub fn schedule(&self, schedule: &Schedule) -> (Scheduling, oracle::Scheduling) {
         (Scheduling { entries: boundary::entries(schedule) }, self.rust.scheduling(schedule))
     }
 
@@ -46,7 +50,7 @@ impl Scene {
 }
 
 /// Four choices in each slot.
-fn dealt(random: &mut Random) -> Schedule {
+pub fn dealt(random: &mut Random) -> Schedule {
     let mut schedule = (0..CHOICES).map(|choice| Some(choice % SLOTS)).collect::<Vec<_>>();
     random.shuffle(&mut schedule);
     schedule

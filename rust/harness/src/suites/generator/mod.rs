@@ -13,6 +13,7 @@ use crate::features::Features;
 use crate::random::Random;
 use crate::run::{Outcome, Run};
 use crate::schedule::Schedule;
+pub use models::look as look_at_model;
 use oracle::{Problem, Solver};
 
 /// Fewer days than these need not show every feature.

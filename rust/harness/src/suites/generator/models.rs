@@ -54,7 +54,8 @@ fn has_right_edges(scene: &Scene, model: &Record, limit: u32) -> Outcome {
     wanted(wrong, Vec::new(), || format!("{day:?} {:?} limit {limit}", scene.schedule))
 }
 
-fn look(features: &mut Features, day: &Day, model: &Record) {
+/// The features of a model that every suite over models looks for.
+pub fn look(features: &mut Features, day: &Day, model: &Record) {
     let repeats = |edges: &[usize]| (1..edges.len()).any(|i| edges[..i].contains(&edges[i]));
     features.look("a model without edges", day.choosers > 0 && model.edges.is_empty());
     features.look("2,080 edges", model.edges.len() == Buffer::EdgeTable.named_length());

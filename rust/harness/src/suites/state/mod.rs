@@ -2,7 +2,7 @@
 //! updates through the Rust's cached path, and a build over what the chain left.
 pub mod refusals;
 mod scene;
-mod walk;
+pub mod walk;
 
 use crate::bridge;
 use crate::day::{CHOICES, Day, random_day, random_size};

@@ -1,19 +1,19 @@
 //! Build, update and slot_list on damaged input: the number that the second
 //! reading gives, zeros beside it, and no byte changed. After each refused call
 //! the chain of schedules goes on from the old state.
-use super::scene::{Scene, at_once, gives};
+use super::scene::Scene;
 use super::walk::Walk;
 use super::{DAYS, DAYS_FOR_FEATURES};
 use crate::answers;
 use crate::bridge;
 use crate::damage::{self, Damage, Input};
-use crate::day::{CHOICES, random_day, random_size};
+use crate::day::{random_day, random_size};
 use crate::features::Features;
 use crate::random::Random;
 use crate::reading::Asked;
 use crate::run::{Outcome, Run};
 use crate::schedule::{Schedule, changed_schedule, random_schedule};
-use crate::state::State;
+use crate::suites::refused::{self, Numbers, damaged};
 
 /// The most steps of a chain.
 const STEPS: usize = 3;
@@ -21,7 +21,7 @@ const STEPS: usize = 3;
 const TRIES: usize = 5;
 
 /// The numbers by which each call refuses. Its done calls are looked for too.
-const NUMBERS: [(&str, &[u32]); 3] = [
+const NUMBERS: [Numbers; 3] = [
     ("build", &[0, 1, 2, 3, 4, 7, 8, 9, 10, 11]),
     ("update", &[0, 1, 2, 3, 4, 7, 8, 9, 10, 11, 12]),
     ("slot_list", &[0, 1, 2, 3, 4, 7, 8, 9, 10, 11, 12]),
@@ -29,18 +29,7 @@ const NUMBERS: [(&str, &[u32]); 3] = [
 
 pub fn run(run: &mut Run) {
     let damages = damage::of_states();
-    let mut features = Features::default();
-    for damage in &damages {
-        features.look(damage.name, false);
-    }
-    for (call, numbers) in NUMBERS {
-        for &number in numbers {
-            features.look(gives(call, number), false);
-        }
-        for pair in numbers[1..].windows(2) {
-            features.look(at_once(call, pair), false);
-        }
-    }
+    let mut features = refused::features(&damages, &NUMBERS);
     for _ in 0..run.days(DAYS) {
         run.case(|random| one_day(random, &damages, &mut features));
     }
@@ -76,38 +65,13 @@ fn one_day(random: &mut Random, damages: &[&Damage], features: &mut Features) ->
 
 /// Sound input: the state that the walk stands at, and the next schedule.
 fn input(random: &mut Random, walk: &Walk, schedule: &Schedule) -> Input {
-    let mut own = walk.schedule.clone();
-    own.resize(CHOICES, None);
     let slots = walk.day.slots;
     Input {
         day: walk.day.clone(),
         buffers: Vec::new(),
         asked: (slots > 0).then(|| Asked::Slot(random.below(slots))).into_iter().collect(),
         schedule: schedule.clone(),
-        state: State {
-            schedule: own,
-            covered: walk.state.covered.to_vec(),
-            blocks: walk.state.blocks.to_vec(),
-            lists: walk.bytes.clone(),
-        },
+        state: walk.plain_state(),
         plan: Vec::new(),
     }
-}
-
-/// The input with one or two damages. What should make no difference is done
-/// first, then the later check's, since each damage looks at the sizes before it.
-fn damaged(
-    random: &mut Random,
-    damages: &[&Damage],
-    features: &mut Features,
-    mut input: Input,
-) -> Input {
-    let picks = random.within(1, 2);
-    let mut picked = (0..picks).map(|_| random.pick(damages)).collect::<Vec<_>>();
-    picked.sort_by_key(|damage| (damage.number > 0, u32::MAX - damage.number));
-    for damage in picked {
-        let is_done = (damage.apply)(random, &mut input).is_some();
-        features.look(damage.name, is_done);
-    }
-    input
 }

@@ -9,6 +9,7 @@ use crate::lists::{carry, lengths};
 use crate::random::Random;
 use crate::reading::{Asked, Buffer, Handed, faults};
 use crate::run::{Outcome, wanted};
+use crate::suites::refused::first;
 use port::guarded::Guarded;
 use port::{SlotListAnswer, StateAnswer};
 use std::fmt::Debug;
@@ -26,7 +27,8 @@ impl Scene<'_, '_> {
         let Input { day, schedule, state, .. } = &self.input;
         let buffers = [(Buffer::SlotLists, state.lists.len())];
         let handed = Handed { day: Some(day), schedule: Some(schedule), ..Handed::default() };
-        let number = number(self.features, "build", &Handed { buffers: &buffers, ..handed });
+        let faults = faults(&Handed { buffers: &buffers, ..handed });
+        let number = first(self.features, "build", &faults);
         let lent_day = boundary::day(random, day);
         let lent = boundary::schedule(random, day, schedule);
         let none = vec![None; schedule.len()];
@@ -37,7 +39,8 @@ impl Scene<'_, '_> {
     pub fn update(&mut self, random: &mut Random) -> Outcome {
         let Input { day, schedule, state, .. } = &self.input;
         let handed = Handed { day: Some(day), schedule: Some(schedule), ..Handed::default() };
-        let number = number(self.features, "update", &Handed { state: Some(state), ..handed });
+        let faults = faults(&Handed { state: Some(state), ..handed });
+        let number = first(self.features, "update", &faults);
         let lent_day = boundary::day(random, day);
         let own = boundary::state(random, day, state);
         let lent = boundary::schedule(random, day, schedule);
@@ -56,7 +59,8 @@ impl Scene<'_, '_> {
         let slot = slots.next().unwrap_or(0);
         let asked = [Asked::Slot(slot)];
         let handed = Handed { day: Some(day), state: Some(state), ..Handed::default() };
-        let number = number(self.features, "slot_list", &Handed { asked: &asked, ..handed });
+        let faults = faults(&Handed { asked: &asked, ..handed });
+        let number = first(self.features, "slot_list", &faults);
         let lent_day = boundary::day(random, day);
         let own = boundary::state(random, day, state);
         let answer = if number == 0 {
@@ -100,25 +104,4 @@ impl Scene<'_, '_> {
         wanted(found, answer, input)?;
         wanted((lists.differs_from(bytes), lists.now()), (None, bytes), input)
     }
-}
-
-/// The first number that applies, by the second reading.
-fn number(features: &mut Features, call: &str, handed: &Handed) -> u32 {
-    let faults = faults(handed);
-    let number = faults.first().copied().unwrap_or(0);
-    features.look(gives(call, number), true);
-    for pair in faults.windows(2) {
-        features.look(at_once(call, pair), true);
-    }
-    number
-}
-
-/// The name of what shows when a call gives a number.
-pub fn gives(call: &str, number: u32) -> String {
-    format!("{call} gives {number}")
-}
-
-/// The name of what shows when two checks apply and none between them.
-pub fn at_once(call: &str, pair: &[u32]) -> String {
-    format!("{call} with {} and {} at once", pair[0], pair[1])
 }

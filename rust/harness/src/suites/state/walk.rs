@@ -7,8 +7,7 @@ use crate::lists::{carry, fronts};
 use crate::random::Random;
 use crate::run::{Outcome, same, wanted};
 use crate::schedule::Schedule;
-use crate::state::LISTS;
-use oracle::State;
+use crate::state::{LISTS, State};
 use port::guarded::Guarded;
 use port::{ScheduleState, SlotListAnswer, StateAnswer};
 
@@ -35,7 +34,12 @@ impl<'a> Walk<'a> {
     }
 
     /// A fresh build, whatever stands in the buffer.
-    pub fn build(&mut self, random: &mut Random, schedule: &Schedule, rust: &State) -> Outcome {
+    pub fn build(
+        &mut self,
+        random: &mut Random,
+        schedule: &Schedule,
+        rust: &oracle::State,
+    ) -> Outcome {
         self.schedule.fill(None);
         let before = self.bytes.clone();
         carry(&mut self.bytes, &self.schedule, &rust.schedule);
@@ -45,7 +49,12 @@ impl<'a> Walk<'a> {
         self.takes("build", answer, rust, &before)
     }
 
-    pub fn update(&mut self, random: &mut Random, schedule: &Schedule, rust: &State) -> Outcome {
+    pub fn update(
+        &mut self,
+        random: &mut Random,
+        schedule: &Schedule,
+        rust: &oracle::State,
+    ) -> Outcome {
         let before = self.bytes.clone();
         carry(&mut self.bytes, &self.schedule, &rust.schedule);
         let day = boundary::day(random, self.day);
@@ -56,7 +65,7 @@ impl<'a> Walk<'a> {
     }
 
     /// Asks for the list of each slot.
-    pub fn ask(&mut self, random: &mut Random, rust: &State) -> Outcome {
+    pub fn ask(&mut self, random: &mut Random, rust: &oracle::State) -> Outcome {
         let day = boundary::day(random, self.day);
         let state = self.handed_on(random);
         for (slot, list) in rust.lists.iter().enumerate() {
@@ -73,8 +82,20 @@ impl<'a> Walk<'a> {
         Ok(())
     }
 
+    /// The state that the walk stands at, in plain data.
+    pub fn plain_state(&self) -> State {
+        let mut schedule = self.schedule.clone();
+        schedule.resize(CHOICES, None);
+        State {
+            schedule,
+            covered: self.state.covered.to_vec(),
+            blocks: self.state.blocks.to_vec(),
+            lists: self.bytes.clone(),
+        }
+    }
+
     /// The state as it was given, or with anything past the day's sizes.
-    fn handed_on(&self, random: &mut Random) -> ScheduleState {
+    pub fn handed_on(&self, random: &mut Random) -> ScheduleState {
         if random.chance(50) {
             self.state
         } else {
@@ -83,7 +104,13 @@ impl<'a> Walk<'a> {
     }
 
     /// Compares all that a call gave and left, and goes on from there.
-    fn takes(&mut self, call: &str, answer: StateAnswer, rust: &State, before: &[u8]) -> Outcome {
+    fn takes(
+        &mut self,
+        call: &str,
+        answer: StateAnswer,
+        rust: &oracle::State,
+        before: &[u8],
+    ) -> Outcome {
         let slots = self.day.slots;
         let input = || {
             let (old, new) = (&self.schedule, &rust.schedule);

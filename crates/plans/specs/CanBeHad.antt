@@ -1,0 +1,42 @@
+-- Which plans can be had from a state at a limit. Statement only; the proofs are `plans-seatable`, `same-plans` and `within-limit` in Plans.antt.
+--
+-- It rests on the contract of `check_values`, which cites the definitions used here: checkNumber and planOf, at fullDay.
+use Prim.Native.Nat.{ℕ, _+_, _*_, _<_, _≤_}
+use mathlib.Core.Path.{_≡_}
+use mathlib.Core.List.{List}
+use mathlib.Core.Logic.{_↔_}
+use lib.IntN.{ℤ}
+use lib.ListN.{getD}
+use Rattle.input_data.specs.Lengths.{Within}
+use Rattle.input_data.specs.declared.Limits.{Limits}
+use Rattle.mip_flow.specs.declared.Lengths.{Lengths}
+use Rattle.plans.specs.Model.{ModelInput, scheduleOf, modelNumber, checkNumber, planOf}
+use Rattle.plans.specs.Seatable.{Seatable, choiceIn}
+
+-- document 01: a plan can be had from a state, at a limit, when some accepted values decode to it
+pub record CanBeHad (l : Limits) (x : ModelInput) (plan : List ℕ) : Type 0 where
+  pub lengths : Lengths
+  pub room : ℕ
+  pub values : List ℤ
+  pub accepted : checkNumber l x lengths values room ≡ 0
+  pub decodes : planOf l x values ≡ plan
+
+-- Where a model can be built, the plans that can be had are those that seat everybody.
+abbrev pub PlansSeatable : Type 0
+PlansSeatable =
+    (l : Limits) → Within l → (x : ModelInput) (lengths : Lengths) → modelNumber l x lengths ≡ 0
+    → (plan : List ℕ) → CanBeHad l x plan ↔ Seatable (x .day) (scheduleOf x) (x .limit) (x .preferences) plan
+
+-- So states of one day that agree in their schedule have the same plans at every limit, whatever the order of their lists ..
+abbrev pub SamePlans : Type 0
+SamePlans =
+    (l : Limits) → Within l → (x y : ModelInput) (lengths : Lengths) → modelNumber l x lengths ≡ 0 → modelNumber l y lengths ≡ 0
+    → x .day ≡ y .day → scheduleOf x ≡ scheduleOf y → x .limit ≡ y .limit → x .preferences ≡ y .preferences
+    → (plan : List ℕ) → CanBeHad l x plan ↔ CanBeHad l y plan
+
+-- .. and no plan that can be had holds a preference above the limit.
+abbrev pub WithinLimit : Type 0
+WithinLimit =
+    (l : Limits) → Within l → (x : ModelInput) (plan : List ℕ) → CanBeHad l x plan
+    → (c s : ℕ) → c < x .day .choosers → s < x .day .slots
+    → getD (x .preferences) (c * x .day .choices + choiceIn (x .day) plan c s) 0 ≤ x .limit

@@ -1,0 +1,72 @@
+-- What input satisfies that a model is built from: the day, the state's lists, its covered counts and its blocks. Assumes nothing.
+use Prim.Native.Nat.{ℕ, _<_, _≤_}
+use mathlib.Core.Path.{_≡_, refl}
+use mathlib.Core.Bool.{Bool, true, false, _||_}
+use lib.Dec.{ltb}
+use lib.ListN.{length, getD}
+use borrow.Author.Tests.{eqb-true, ltb-false, not-false}
+use Rattle.counting.specs.Tests.{or-split, none-each, never}
+use Rattle.input_data.specs.Lengths.{Within, listsLength}
+use Rattle.input_data.specs.declared.Limits.{Limits}
+use Rattle.scheduling.specs.Schedule.{entryAt}
+use Rattle.slot_lists.specs.Held.{Held, held, misheld}
+use Rattle.schedule_state.specs.Blocks.{cell}
+use Rattle.schedule_state.specs.Good.{Handed, Ready, kept-fits}
+use Rattle.schedule_state.specs.Numbers.{StateAccepted, state-accepted}
+use Rattle.schedule_state.specs.State.{coveredAt, blockedAt, unlike, miscounted, miscountedIn, miscountedAt, misblocked, misblockedRow, misblockedAt}
+use Rattle.mip_flow.specs.Lengths.{shortBuffers}
+use Rattle.mip_flow.specs.declared.Lengths.{Lengths}
+use Rattle.plans.specs.Model.{ModelInput, scheduleOf, wrongTables, besideModel, numberWith}
+
+pub record Good (l : Limits) (x : ModelInput) : Type 0 where
+  pub ready : Ready l (x .day) (length (x .lists))
+  -- an entry is 0, or s + 1 for a slot s of the day
+  pub fits : (k : ℕ) → k < x .day .choices → entryAt (scheduleOf x) k ≤ x .day .slots
+  pub lists : Held (l .choices) (entryAt (scheduleOf x)) (x .day .choices) (x .day .slots) (x .lists)
+  pub covered : (s : ℕ) → s < x .day .slots → getD (x .state .covered) s 0 ≡ coveredAt (x .day) (scheduleOf x) s
+  pub blocks : (c k : ℕ) → c < x .day .choosers → k < x .day .choices → getD (x .state .blocks) (cell c k) false ≡ blockedAt (x .day) (scheduleOf x) c k
+
+unlike-not : (a b : Bool) → unlike a b ≡ false → a ≡ b
+unlike-not true true e = refl
+unlike-not true false e = never e
+unlike-not false true e = never e
+unlike-not false false e = refl
+
+module _ (l : Limits) (x : ModelInput) (lens : Lengths) (short : Bool) (w : Within l) (e : numberWith l x lens short ≡ 0) where
+  -- the lists' length is one of the lengths that these calls test
+  handed : Handed l (besideModel l x lens short) (length (x .lists))
+  handed = record {
+    within = w;
+    room = λ t.
+        let p : (((wrongTables x || ltb (length (x .lists)) (listsLength l)) || shortBuffers l lens) ≡ false) × (short ≡ false) = or-split t in
+        let q : ((wrongTables x || ltb (length (x .lists)) (listsLength l)) ≡ false) × (shortBuffers l lens ≡ false) = or-split (p .0) in
+        let r : (wrongTables x ≡ false) × (ltb (length (x .lists)) (listsLength l) ≡ false) = or-split (q .0) in
+        ltb-false (length (x .lists)) (listsLength l) (r .1);
+  }
+
+  pub model-accepted : StateAccepted l (x .day) (x .state) (besideModel l x lens short) (x .lists)
+  model-accepted = state-accepted l (x .day) (x .state) (besideModel l x lens short) (x .lists) handed e
+
+  abbrev held-ill : Bool
+  held-ill = misheld (l .choices) (entryAt (scheduleOf x)) (x .day .choices) (x .day .slots) (x .lists)
+
+  abbrev count-ill : Bool
+  count-ill = miscounted (x .day) (scheduleOf x) (x .state .covered)
+
+  abbrev block-ill : Bool
+  block-ill = misblocked (blockedAt (x .day) (scheduleOf x)) (x .day .choosers) (x .day .choices) (x .state .blocks)
+
+  pub good : Good l x
+  unfolding miscountedIn misblocked
+  good =
+      let a = model-accepted in
+      let p : ((held-ill || count-ill) ≡ false) × (block-ill ≡ false) = or-split (a .consistent) in
+      let q : (held-ill ≡ false) × (count-ill ≡ false) = or-split (p .0) in
+      record {
+        ready = a .ready;
+        fits = kept-fits (a .ready) (x .state .schedule) (a .inside);
+        lists = held (l .choices) (entryAt (scheduleOf x)) (x .day .choices) (x .day .slots) (x .lists) (q .0);
+        covered = λ s h. eqb-true _ _ (not-false _ (none-each (x .day .slots) (miscountedAt (coveredAt (x .day) (scheduleOf x)) (x .state .covered)) (q .1) s h));
+        blocks = λ c k h g. unlike-not _ _ (none-each (x .day .choices) (misblockedAt (blockedAt (x .day) (scheduleOf x)) (x .state .blocks) c)
+            (none-each (x .day .choosers) (misblockedRow (blockedAt (x .day) (scheduleOf x)) (x .day .choices) (x .state .blocks)) (p .1) c h) k g);
+      }

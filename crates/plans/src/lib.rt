@@ -1,0 +1,1 @@
+// Definitions and theorems only: which plans can be had from a state at a limit.

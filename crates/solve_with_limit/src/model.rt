@@ -1,0 +1,181 @@
+// The flow model of a state at a preference limit.
+use crate::Counts;
+use crate::ModelAnswer;
+use crate::number::number_with;
+use input_data::InputData;
+use input_data::Limits;
+use mip_flow::Lengths;
+use schedule_state::AssignmentScheduleState;
+use schedule_state::Sizes;
+ghost use mathlib.Core.Path.{_≡_};
+ghost use mathlib.Core.Bool.{false};
+ghost use lib.ListN.{replicate};
+ghost use Rattle.input_data.specs.Lengths.{fullDay};
+ghost use Rattle.plans.specs.Model.{modelInput};
+ghost use Rattle.solve_with_limit.specs.Calls.{buffers, lengthsOf, refused, ModelLeaves};
+ghost use Rattle.solve_with_limit.specs.Building.{Buildable, ModelMade};
+
+// A refused call: the number, and zeros.
+pub fn refuse(number: u32) -> ModelAnswer
+    ensures { λ r. ⌜ r ≡ refused number ⌝ }
+{
+    ModelAnswer {
+        number: number,
+        edges: 0,
+        entries: 0,
+        groups: 0,
+        blocked: 0,
+    }
+}
+
+// Writes the model of tested input into the buffers, and the numbers of the seats' edges into the index.
+pub fn put_model(
+    limits: Limits,
+    day: InputData,
+    state: AssignmentScheduleState,
+    limit: u32,
+    preferences: &[u32],
+    costs: &[i64],
+    lists: &[u8],
+    supplies: &mut [i32],
+    from: &mut [u16],
+    to: &mut [u16],
+    max: &mut [u32],
+    cost: &mut [i64],
+    entries: &mut [u16],
+    ends: &mut [u16],
+    blocked: &mut [u16],
+    index: &mut [u16; 2048],
+) -> Counts
+    requires { ⌜ Buildable limits (modelInput day state limit (now preferences) (now costs) (now lists)) (lengthsOf (buffers (now supplies) (now from) (now to) (now max) (now cost) (now entries) (now ends) (now blocked))) × (now index ≡ replicate 2048 65535) ⌝ }
+    ensures { λ r. ⌜ ModelMade limits (modelInput day state limit (now (preferences .entry)) (now (costs .entry)) (now (lists .entry))) (buffers (now (supplies .entry)) (now (from .entry)) (now (to .entry)) (now (max .entry)) (now (cost .entry)) (now (entries .entry)) (now (ends .entry)) (now (blocked .entry))) (buffers (now (supplies .exit)) (now (from .exit)) (now (to .exit)) (now (max .exit)) (now (cost .exit)) (now (entries .exit)) (now (ends .exit)) (now (blocked .exit))) (now (index .exit)) r ⌝ }
+{
+    let sizes = Sizes {
+        stride: limits.choices,
+        choosers: day.choosers,
+        choices: day.choices,
+        slots: day.slots,
+    };
+    let schedule = scheduling::kept(day.choices, &state.schedule.entries);
+    let lens = slot_lists::sums(&schedule, &schedule_state::ones(), day.choices);
+    mip_flow_static_data::put_supplies(sizes, &schedule, &day.mins, &state.covered, supplies);
+    let seats = mip_flow::put_seats(
+        sizes,
+        limit,
+        preferences,
+        &state.blocks,
+        costs,
+        lists,
+        &lens,
+        from,
+        to,
+        max,
+        cost,
+        index,
+    );
+    let edges = mip_flow::put_choices(
+        sizes,
+        &schedule,
+        &day.mins,
+        &day.maxs,
+        from,
+        to,
+        max,
+        cost,
+        seats,
+    );
+    let marks = edge_groups::put_groups(
+        seats,
+        sizes,
+        index,
+        lists,
+        &lens,
+        &schedule,
+        day.assignment,
+        day.groups,
+        &day.lengths,
+        &day.members,
+        entries,
+        ends,
+        blocked,
+    );
+    Counts {
+        lens: lens,
+        seats: seats,
+        edges: edges,
+        entries: marks.entries,
+        groups: marks.groups,
+        blocked: marks.blocked,
+    }
+}
+
+// Builds the model of a day, a state and its slot lists, at a preference limit.
+pub fn build_model(
+    day: InputData,
+    state: AssignmentScheduleState,
+    limit: u32,
+    preferences: &[u32],
+    costs: &[i64],
+    lists: &[u8],
+    supplies: &mut [i32],
+    from: &mut [u16],
+    to: &mut [u16],
+    max: &mut [u32],
+    cost: &mut [i64],
+    entries: &mut [u16],
+    ends: &mut [u16],
+    blocked: &mut [u16],
+) -> ModelAnswer
+    ensures { λ r. ⌜ ModelLeaves fullDay (modelInput day state limit (now (preferences .entry)) (now (costs .entry)) (now (lists .entry))) (buffers (now (supplies .entry)) (now (from .entry)) (now (to .entry)) (now (max .entry)) (now (cost .entry)) (now (entries .entry)) (now (ends .entry)) (now (blocked .entry))) (buffers (now (supplies .exit)) (now (from .exit)) (now (to .exit)) (now (max .exit)) (now (cost .exit)) (now (entries .exit)) (now (ends .exit)) (now (blocked .exit))) r ⌝ }
+{
+    let limits = schedule_state::full_day();
+    let lengths = Lengths {
+        supplies: supplies.len(),
+        from: from.len(),
+        to: to.len(),
+        max: max.len(),
+        cost: cost.len(),
+        entries: entries.len(),
+        ends: ends.len(),
+        blocked: blocked.len(),
+    };
+    let number = number_with(
+        limits,
+        day,
+        state,
+        preferences,
+        costs,
+        lists,
+        lengths,
+        false,
+    );
+    if number != 0 {
+        return refuse(number);
+    }
+    let mut index = [65535u16; 2048];
+    let counts = put_model(
+        limits,
+        day,
+        state,
+        limit,
+        preferences,
+        costs,
+        lists,
+        supplies,
+        from,
+        to,
+        max,
+        cost,
+        entries,
+        ends,
+        blocked,
+        &mut index,
+    );
+    ModelAnswer {
+        number: 0,
+        edges: counts.edges,
+        entries: counts.entries,
+        groups: counts.groups,
+        blocked: counts.blocked,
+    }
+}

@@ -1,0 +1,125 @@
+//! The two calls on guarded input, compared in all that they give and leave.
+use super::lent::{Lengths, Lent, VALUES};
+use crate::answers;
+use crate::boundary;
+use crate::day::Day;
+use crate::random::Random;
+use crate::run::{Failure, Outcome, wanted};
+use oracle::{Plan, Record};
+use port::guarded::Guarded;
+use port::{InputData, ModelAnswer, ModelTables, ScheduleState};
+use std::fmt;
+
+/// What a call is asked: the model at a limit, or whether it accepts values.
+pub struct Asked {
+    pub limit: u32,
+    pub values: Option<Vec<i32>>,
+}
+
+impl fmt::Debug for Asked {
+    /// Values show as runs of equal ones, since most are 0.
+    fn fmt(&self, formatter: &mut fmt::Formatter) -> fmt::Result {
+        write!(formatter, "limit {}", self.limit)?;
+        for run in self.values.iter().flat_map(|values| values.chunk_by(|a, b| a == b)) {
+            write!(formatter, " {}", run[0])?;
+            if run.len() > 1 {
+                write!(formatter, "x{}", run.len())?;
+            }
+        }
+        Ok(())
+    }
+}
+
+pub struct Calls<'a> {
+    day: &'a Day,
+    lent_day: InputData,
+    state: ScheduleState,
+    preferences: Guarded<u32>,
+    costs: Guarded<i64>,
+    lists: Guarded<u8>,
+    pub lengths: Lengths,
+    pub lent: Lent,
+}
+
+impl<'a> Calls<'a> {
+    pub fn new(
+        random: &mut Random,
+        day: &'a Day,
+        state: ScheduleState,
+        lists: &[u8],
+        lengths: Lengths,
+    ) -> Self {
+        Self {
+            day,
+            lent_day: boundary::day(random, day),
+            state,
+            preferences: Guarded::holding(&day.preferences),
+            costs: Guarded::holding(&day.costs),
+            lists: Guarded::holding(lists),
+            lengths,
+            lent: Lent::new(&lengths),
+        }
+    }
+
+    /// Values of the length that is lent, with anything past these.
+    pub fn with_rest(&self, random: &mut Random, values: &[i32]) -> Vec<i32> {
+        let any = random.bits() as i32;
+        let rest = random.pick(&[0, 1, -1, any]);
+        let mut values = values.to_vec();
+        values.resize(self.lengths[VALUES], rest);
+        values
+    }
+
+    /// The model must be given and left.
+    pub fn models(&mut self, limit: u32, model: &Record) -> Outcome {
+        self.lent.expect_model(model);
+        self.gives(&Asked { limit, values: None }, answers::model(model))
+    }
+
+    /// The values must be refused by the number, which is 14 to 17, or with 0 be
+    /// accepted and decoded. The model must be left either way. Gives the plan.
+    pub fn judges(
+        &mut self,
+        asked: &Asked,
+        model: &Record,
+        number: u32,
+        decode: impl FnOnce() -> Plan,
+    ) -> Result<Option<Plan>, Failure> {
+        self.lent.expect_model(model);
+        if number > 0 {
+            self.gives(asked, answers::refused_model(number))?;
+            return Ok(None);
+        }
+        let plan = decode();
+        self.lent.expect_plan(&plan);
+        self.gives(asked, answers::model(model))?;
+        Ok(Some(plan))
+    }
+
+    /// Makes the call: it must give this answer and leave what is expected.
+    pub fn gives(&mut self, asked: &Asked, answer: ModelAnswer) -> Outcome {
+        let mut values = asked.values.as_deref().map(Guarded::holding);
+        let tables = ModelTables {
+            preferences: self.preferences.lend(),
+            costs: self.costs.lend(),
+            lists: self.lists.lend(),
+        };
+        let (model, plan) = self.lent.lend();
+        let (day, state, limit) = (&self.lent_day, &self.state, asked.limit);
+        let found = match &mut values {
+            None => port::model(day, state, limit, tables, model),
+            Some(values) => {
+                port::check_values(day, state, limit, tables, values.lend(), model, plan)
+            }
+        };
+        let input = || {
+            let (day, state, lists) = (self.day, &self.state, self.lists.now());
+            format!("{asked:?} of {day:?} {state:?} with lists {lists:?}")
+        };
+        wanted(found, answer, input)?;
+        let changes = (self.preferences.changed(), self.costs.changed(), self.lists.changed());
+        wanted(changes, (None, None, None), input)?;
+        wanted(values.and_then(|values| values.changed()), None, input)?;
+        self.lent.is_right(&input)
+    }
+}

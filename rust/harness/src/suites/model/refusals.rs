@@ -1,0 +1,171 @@
+//! Both calls on damaged input: the number that the second reading gives, zeros
+//! beside it, and no byte changed. What the damage leaves sound is compared with
+//! the Rust.
+use super::calls::{Asked, Calls};
+use super::lent::{BUFFERS, OF_MODEL, VALUES, random_lengths};
+use super::scene::{Scene, random_model_day};
+use super::{DAYS, DAYS_FOR_FEATURES, random_limit};
+use crate::answers;
+use crate::boundary;
+use crate::bridge;
+use crate::damage::{self, Damage, Input};
+use crate::day::sample_day;
+use crate::features::Features;
+use crate::lists::fronts;
+use crate::random::Random;
+use crate::reading::{Handed, faults, values_number};
+use crate::run::{Outcome, Run, wanted};
+use crate::state::LISTS;
+use crate::suites::refused::{self, Numbers, damaged, first};
+use oracle::Solver;
+use std::array;
+
+/// Damaged inputs on each day.
+const TRIES: usize = 5;
+
+/// The numbers by which each call refuses. Its done calls are looked for too.
+const NUMBERS: [Numbers; 2] = [
+    ("model", &[0, 1, 2, 3, 4, 6, 7, 8, 9, 10, 11, 12]),
+    ("check_values", &[0, 1, 2, 3, 4, 6, 7, 8, 9, 10, 11, 12]),
+];
+
+/// Tables of one too few and one too many, and slot lists of one too few.
+const TABLES: [fn(&mut Input); 5] = [
+    |input| _ = input.day.preferences.pop(),
+    |input| input.day.preferences.push(0),
+    |input| _ = input.day.costs.pop(),
+    |input| input.day.costs.push(0),
+    |input| input.state.lists.truncate(LISTS - 1),
+];
+
+pub fn run(run: &mut Run) {
+    for (place, buffer) in BUFFERS.into_iter().enumerate() {
+        let model = if place < OF_MODEL { 2 } else { 0 };
+        let short = |input: &mut Input| input.buffers[place].1 = buffer.named_length() - 1;
+        run.case(|random| one_length(random, short, [model, 2]));
+    }
+    for change in TABLES {
+        run.case(|random| one_length(random, change, [2, 2]));
+    }
+    let damages = damage::of_models();
+    let mut features = refused::features(&damages, &NUMBERS);
+    for _ in 0..run.days(DAYS) {
+        run.case(|random| one_day(random, &damages, &mut features));
+    }
+    if run.days(DAYS) >= DAYS_FOR_FEATURES {
+        run.over_all(|| features.all_seen());
+    }
+}
+
+/// The sample day with a wrong length: each call gives its number.
+fn one_length(random: &mut Random, change: impl FnOnce(&mut Input), numbers: [u32; 2]) -> Outcome {
+    let day = sample_day();
+    let problem = bridge::problem(&day);
+    let scene = Scene::built(random, &day, &problem)?;
+    let mut input = input(random, &scene);
+    change(&mut input);
+    let mut features = Features::default();
+    let mut trial = Trial::new(random, &mut features, &input, 1);
+    wanted(trial.numbers, numbers, || format!("{input:?}"))?;
+    trial.model()?;
+    trial.check_values(random)
+}
+
+fn one_day(random: &mut Random, damages: &[&Damage], features: &mut Features) -> Outcome {
+    let day = random_model_day(random);
+    let problem = bridge::problem(&day);
+    let scene = Scene::built(random, &day, &problem)?.carried(random)?;
+    for _ in 0..TRIES {
+        let sound = input(random, &scene);
+        let input = damaged(random, damages, features, sound);
+        let limit = random_limit(random, &day);
+        let mut trial = Trial::new(random, features, &input, limit);
+        trial.model()?;
+        trial.check_values(random)?;
+    }
+    Ok(())
+}
+
+/// Sound input: the state that the walk stands at.
+fn input(random: &mut Random, scene: &Scene) -> Input {
+    let lengths = random_lengths(random);
+    let state = scene.walk.plain_state();
+    Input {
+        day: scene.walk.day.clone(),
+        buffers: BUFFERS.into_iter().zip(lengths).collect(),
+        asked: Vec::new(),
+        schedule: state.schedule.clone(),
+        state,
+        plan: Vec::new(),
+    }
+}
+
+/// Both calls on an input, and the number of each before any value is looked at.
+struct Trial<'a> {
+    features: &'a mut Features,
+    input: &'a Input,
+    limit: u32,
+    calls: Calls<'a>,
+    numbers: [u32; 2],
+}
+
+impl<'a> Trial<'a> {
+    fn new(random: &mut Random, features: &'a mut Features, input: &'a Input, limit: u32) -> Self {
+        let Input { day, state, buffers, .. } = input;
+        let handed = Handed {
+            day: Some(day),
+            preferences: Some(&day.preferences),
+            costs: Some(&day.costs),
+            state: Some(state),
+            ..Handed::default()
+        };
+        let of_model = faults(&Handed { buffers: &buffers[..OF_MODEL], ..handed });
+        let of_values = faults(&Handed { buffers, ..handed });
+        let numbers =
+            [first(features, NUMBERS[0].0, &of_model), first(features, NUMBERS[1].0, &of_values)];
+        let own = boundary::state(random, day, state);
+        let lengths = array::from_fn(|place| buffers[place].1);
+        let calls = Calls::new(random, day, own, &state.lists, lengths);
+        Self { features, input, limit, calls, numbers }
+    }
+
+    fn model(&mut self) -> Outcome {
+        let limit = self.limit;
+        if self.numbers[0] > 0 {
+            let asked = Asked { limit, values: None };
+            return self.calls.gives(&asked, answers::refused_model(self.numbers[0]));
+        }
+        let model = rust(self.input, |solver| solver.model(limit));
+        self.calls.models(limit, &model)
+    }
+
+    /// Values that are no good must not decide where another number does.
+    fn check_values(&mut self, random: &mut Random) -> Outcome {
+        let (limit, number) = (self.limit, self.numbers[1]);
+        let value = random.pick(&[0, 0, -1, 1]);
+        let is_below = number == 12 && value < 0;
+        self.features.look("check_values with 12 and values below 0", is_below);
+        let values = vec![value; self.calls.lengths[VALUES]];
+        let asked = Asked { limit, values: Some(values.clone()) };
+        self.calls.lent.reset();
+        if number > 0 {
+            return self.calls.gives(&asked, answers::refused_model(number));
+        }
+        let model = rust(self.input, |solver| solver.model(limit));
+        let used = &values[..model.edges.len()];
+        let decode = || rust(self.input, |solver| solver.decode(limit, used));
+        self.calls.judges(&asked, &model, values_number(&model, used), decode)?;
+        Ok(())
+    }
+}
+
+/// Asks the Rust with the state and the slot lists of the input.
+fn rust<T>(input: &Input, ask: impl FnOnce(&mut Solver) -> T) -> T {
+    let Input { day, state, .. } = input;
+    let schedule = &state.schedule[..day.choices];
+    let problem = bridge::problem(day);
+    let mut solver = problem.solver();
+    solver.prepare(schedule);
+    solver.reorder(fronts(&state.lists, schedule, day.slots));
+    ask(&mut solver)
+}
