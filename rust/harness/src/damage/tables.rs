@@ -19,7 +19,9 @@ fn table_length(random: &mut Random, input: &mut Input) -> Option<()> {
     match random.below(4) {
         0 => resize(random, &mut day.preferences, 0),
         1 => resize(random, &mut day.powers, 0.0),
-        2 => resize(random, &mut day.costs, 0),
+        // No table has the cost that a longer one ends in: beside another max_preference it
+        // would be of the right length, legal, and not the Rust's.
+        2 => resize(random, &mut day.costs, -1),
         _ => resize(random, &mut input.plan, 0),
     }
 }
