@@ -3,11 +3,11 @@ use Prim.Native.Nat.{ℕ, zero, suc, _+_, _*_, _≤_, _<_, zero-le}
 use mathlib.Core.Path.{_≡_, refl, sym, ap, _∙_}
 use mathlib.Core.Bool.{Bool, true, false, cond}
 use mathlib.Core.Logic.{_≢_}
-use native.Mathlib.Nat.{le-antisymm, le-refl}
+use native.Mathlib.Nat.{le-antisymm, le-refl, suc-mul, mul-le-mul-right}
 use native.Mathlib.Omega.{arith}
 use lib.Dec.{eqb, ltb}
-use borrow.Author.Tests.{ne-eqb}
-use Rattle.counting.specs.Fold.{foldTo, fold-ext, fold-suc, gate, sumTo, countTo}
+use borrow.Author.Tests.{ne-eqb, lt-ltb}
+use Rattle.counting.specs.Fold.{foldTo, fold-none, fold-ext, fold-suc, gate, sumTo, countTo}
 use Rattle.counting.specs.Tests.{eq-cases, lt-cases}
 
 -- the next summand, as a loop adds it
@@ -148,3 +148,14 @@ one-hot-same n f e i j hi hj p q =
     eq-cases i (r .at)
     (λ a b. eq-cases j (r .at) (λ a′ b′. omega arith) (λ a′ b′. absurd (q (r .cold j hj a′))))
     (λ a b. absurd (p (r .cold i hi a)))
+
+-- the terms below n alone
+pub sum-below : (m n : ℕ) (f : ℕ → ℕ) → n ≤ m → sumTo m (λ k. gate (ltb k n) (f k)) ≡ sumTo n f
+sum-below zero n f h = let z : n ≡ 0 = omega arith in rw z (fold-none _+_ 0 (λ k. gate (ltb k 0) (f k)) ∙ sym (fold-none _+_ 0 f))
+sum-below (suc m) n f h = lt-cases m n
+    (λ b v. let z : n ≡ suc m = omega arith in rw z (fold-ext _+_ 0 (suc m) (λ k. gate (ltb k (suc m)) (f k)) f (λ k c. ap (λ (t : Bool). gate t (f k)) (lt-ltb k (suc m) c))))
+    (λ b v. fold-suc _+_ 0 m (λ k. gate (ltb k n) (f k)) ∙ rw v (omega (arith, sum-below m n f b)))
+
+-- a place in a table of n rows of m
+pub grid-lt : {n m a b : ℕ} → a < n → b < m → a * m + b < n * m
+grid-lt {m = m} {a = a} h l = omega (arith, suc-mul a m, mul-le-mul-right m h)

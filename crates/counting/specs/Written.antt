@@ -106,5 +106,9 @@ module _ {ℓ ℓ′} {B : Type ℓ} {E : Type ℓ′} where
   put-all f e p = put-eq (fold-at _++_ [] f e) p
 
 -- one buffer
-pub one-buffer {ℓ} : (A : Type ℓ) → Storing (List A) A
+abbrev pub one-buffer {ℓ} : (A : Type ℓ) → Storing (List A) A
 one-buffer A = record { store = written; store-none = written-none; store-append = written-append }
+
+-- a store keeps its length
+pub put-length {ℓ} : {A : Type ℓ} {d₀ d : List A} {at₀ at : ℕ} {vs : List A} → Put (one-buffer A) d₀ at₀ vs d at → length d ≡ length d₀
+put-length {d₀ = d₀} {at₀ = at₀} {vs = vs} p = ap length (p .holds) ∙ length-written d₀ at₀ vs

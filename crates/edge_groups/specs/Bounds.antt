@@ -19,7 +19,7 @@ use Rattle.scheduling.specs.Schedule.{entryAt}
 use Rattle.schedule_state.specs.declared.state.Sizes.{Sizes}
 use Rattle.edge_groups.specs.declared.Marks.{Marks}
 use Rattle.edge_groups.specs.Groups.{each, allThere, present, groupsOf, blockedOf, flat, Buffers, marks, marked, PutGroups, Room}
-use Rattle.edge_groups.specs.Names.{pairNames, slotNames, slotNamesAt, sameChoicesNames, constraintNames, constraintNamesAt, constraintsNames, memberNameAt, chooserNames, chooserNamesAt, groupNames, groupNamesAt, startOf, dependentNames}
+use Rattle.edge_groups.specs.Names.{pairNames, slotNames, slotNamesAt, sameChoicesNames, constraintNames, constraintNamesAt, constraintsNames, memberNameAt, chooserNames, chooserNamesAt, groupNames, groupNamesAt, startOf, dependentNames, names}
 use Rattle.edge_groups.specs.Stored.{each-append, entries-length, groups-length, blocked-length}
 
 -- ---- no more is stored than is named
@@ -200,3 +200,11 @@ module _ (edge : ℕ → ℕ → ℕ) where
     pub dependent-few : (groups : ℕ) → groups ≤ 16 → startOf lengths groups ≤ 32 → Few (dependentNames edge z sch groups lengths members) 2048 1024
     unfolding dependentNames
     dependent-few groups p q = few-weaker 2048 1024 (omega arith) (omega arith) (groups-few groups)
+
+-- all that is named, whatever stands for an edge's number: the buffers have room for it
+pub names-few : (edge : ℕ → ℕ → ℕ) (z : Sizes) (sch : List ℕ) (count : ℕ → ℕ) (list : ℕ → ℕ → ℕ) (assignment : ConstraintList) (groups : ℕ) (lengths members : List ℕ)
+    → sumTo (z .slots) count ≤ 32 → assignment .count ≤ 32 → z .choosers ≤ 64 → groups ≤ 16 → startOf lengths groups ≤ 32
+    → Few (names edge z sch count list assignment groups lengths members) 4096 2048
+unfolding names
+names-few edge z sch count list assignment groups lengths members a b c d e =
+    few-then (list-few edge z count list a assignment b) (dependent-few edge z sch lengths members c groups d e)

@@ -20,8 +20,8 @@ use Rattle.slot_lists.specs.Lists.{part-length as front-length, part-at as fron
 use Rattle.schedule_state.specs.Blocks.{cell}
 use Rattle.schedule_state.specs.declared.state.Sizes.{Sizes}
 use Rattle.edge_groups.specs.Groups.{each, allThere, ifThere, present}
-use Rattle.edge_groups.specs.Bounds.{Few, few-then, list-few, dependent-few, start-within}
-use Rattle.edge_groups.specs.Names.{pairNames, slotNames, sameChoicesNames, constraintNames, memberName, chooserNamesAt, groupNames, groupNamesAt, startOf, names}
+use Rattle.edge_groups.specs.Bounds.{start-within}
+use Rattle.edge_groups.specs.Names.{pairNames, slotNames, sameChoicesNames, constraintNames, memberName, chooserNamesAt, groupNames, groupNamesAt, startOf}
 
 -- the two choosers that a ChoosersHaveSameChoices names
 abbrev pub NamesChoosers : Constraint → Type 0
@@ -87,13 +87,6 @@ module _ {n : ℕ} {z : Sizes} {lists lens : List ℕ} {assignment : ConstraintL
 
   pub dependent-of : Dependent z groups lengths members
   dependent-of = record { choosers = g .choosers; count = g .groups-most; few = g .members-most; each = g .member }
-
-  -- all that is named, whatever stands for an edge's number: the buffers have room for it
-  pub names-few : (edge : ℕ → ℕ → ℕ) (sch : List ℕ) → Few (names edge z sch (entryAt lens) (listed (z .stride) lists) assignment groups lengths members) 4096 2048
-  unfolding names
-  names-few edge sch =
-      few-then (list-few edge z (entryAt lens) (listed (z .stride) lists) (g .in-all) assignment (g .constraints))
-      (dependent-few edge z sch lengths members (g .choosers) groups (g .groups-most) (g .members-most))
 
 -- a slot's list, handed as a part of the buffer
 module _ {z : Sizes} {lists lens : List ℕ} {s : ℕ} {l : List ℕ} (h : Listed z lists lens) (b : s < z .slots) (e : l ≡ take (entryAt lens s) (drop (z .stride * s) lists)) where

@@ -11,7 +11,7 @@ use borrow.Author.Tests.{lt-ltb, le-ltb}
 use Rattle.counting.specs.Fold.{onlyIf, joinTo, fold-none, fold-more, fold-at}
 use Rattle.counting.specs.Lists.{only-length}
 use Rattle.counting.specs.Tests.{never}
-use Rattle.counting.specs.Written.{written, written-none, written-one, written-append, length-written, Storing, Put, put-none, put-eq, put-then}
+use Rattle.counting.specs.Written.{written, written-none, written-one, written-append, length-written, Storing, Put, one-buffer, put-length, put-none, put-eq, put-then}
 use Rattle.edge_groups.specs.Groups.{each, allThere, ifThere, present, flat, endsFrom, Buffers, buffers, marks, stored, marked, PutGroups}
 use Rattle.edge_groups.specs.declared.Marks.{Marks}
 
@@ -77,7 +77,7 @@ module _ {n : ℕ} {b₀ b : Buffers} {k₀ k : Marks} {ls : List (List ℕ)} (p
 
 -- edges are stored in one buffer, one after the other
 abbrev pub storing : Storing (List ℕ) ℕ
-storing = record { store = written; store-none = written-none; store-append = written-append }
+storing = one-buffer ℕ
 
 -- an edge that is there, and one that is not
 pub put-there : {n e : ℕ} (d : List ℕ) (at : ℕ) → e < n → Put storing d at (ifThere n e) (set d at e) (at + 1)
@@ -85,9 +85,6 @@ put-there d at h = rw (lt-ltb _ _ h) (record { count = refl; holds = sym (writte
 
 pub put-missing : {n e : ℕ} (d : List ℕ) (at : ℕ) → n ≤ e → Put storing d at (ifThere n e) d at
 put-missing d at h = rw (le-ltb _ _ h) (put-none storing d at)
-
-pub put-length : {d₀ d : List ℕ} {at₀ at : ℕ} {vs : List ℕ} → Put storing d₀ at₀ vs d at → length d ≡ length d₀
-put-length {d₀ = d₀} {at₀ = at₀} {vs = vs} p = ap length (p .holds) ∙ length-written d₀ at₀ vs
 
 -- room for two edges leaves room for one after an edge
 pub room-for-one : (n e : ℕ) {d₀ d : List ℕ} {at₀ at : ℕ} → Put storing d₀ at₀ (ifThere n e) d at → at₀ + 2 ≤ length d₀ → at + 1 ≤ length d

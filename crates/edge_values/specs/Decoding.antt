@@ -97,10 +97,7 @@ module _ {n : ℕ} {z : Sizes} {index lists lens : List ℕ} {values : List ℤ}
       → r ≡ choiceFor n values (numberAt index) (entryAt lens) (listed (z .stride) lists) c s
   front-is e q = (rw e at q) ∙ front-choice
 
--- a place of a row is one of the plan
-pub place-in : (m n c s : ℕ) → c < m → s < n → c * n + s < m * n
-place-in m n c s h k = omega (arith, mul-le-mul-right n h, suc-mul c n)
-
+-- a row is one of the plan
 pub row-in : (m n c : ℕ) → c < m → c * n ≤ m * n
 row-in m n c h = omega (arith, mul-le-mul-right n h, suc-mul c n)
 

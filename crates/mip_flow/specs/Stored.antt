@@ -4,7 +4,7 @@ use mathlib.Core.Path.{_≡_, refl, sym, ap, _∙_}
 use mathlib.Core.Bool.{Bool, true, false, not, _&&_, and-false}
 use mathlib.Core.List.{List, [], _∷_, _++_, map, map-append}
 use mathlib.Core.Logic.{_≢_}
-use native.Mathlib.Nat.{add-zero, mul-one, suc-mul, mul-le-mul-right}
+use native.Mathlib.Nat.{add-zero, mul-one}
 use native.Mathlib.Omega.{arith}
 use lib.Dec.{eqb, leb}
 use lib.IntN.{ℤ, pos}
@@ -235,10 +235,6 @@ pub record Placed (y : Choices) : Type 0 where
   pub fits : (k : ℕ) → k < y .sizes .choices → entryAt (y .entries) k ≤ y .sizes .slots
   pub order : (k : ℕ) → k < y .sizes .choices → entryAt (y .mins) k ≤ entryAt (y .maxs) k
   pub light : (k : ℕ) → k < y .sizes .choices → entryAt (y .maxs) k ≤ 1000
-
--- a place in a table of m rows of n
-pub cell-lt : {c m k n : ℕ} → c < m → k < n → c * n + k < m * n
-cell-lt {c = c} {n = n} h l = omega (arith, suc-mul c n, mul-le-mul-right n h)
 
 -- ---- a slot's list, read as a part of the buffer
 

@@ -22,7 +22,8 @@ use Rattle.mip_flow_static_data.specs.Nodes.{chooserSupply, choiceSupply, slotS
 use Rattle.edge_values.specs.Values.{valueAt, outside, outsideAt, someOutside, flowAt, flow, unbalancedAt, someUnbalanced}
 use Rattle.plans.specs.Model.{ModelInput, sizesOf, scheduleOf, networkOf}
 use Rattle.plans.specs.Good.{Good}
-use Rattle.plans.specs.Flow.{ByKind, Accepted, meets, coveredOf, grid-lt}
+use Rattle.counting.specs.Sums.{grid-lt}
+use Rattle.plans.specs.Flow.{ByKind, Accepted, meets, coveredOf}
 use Rattle.plans.specs.SeatPairs.{frameOf, edgeCount, from-length}
 
 -- ---- differences of naturals as integers
@@ -148,7 +149,7 @@ module _ (l : Limits) (x : ModelInput) (g : Good l x) where
 
     by-kind : ((p : ℕ) → p < C * S + K + S → subℕ (out p) (inn p) ≡ supply p) → ByKind (frameOf l x g) out inn
     by-kind h = record {
-      chooser = λ c s hc hs. omega (arith, sub-same (out (c * S + s)) (inn (c * S + s)) 1 0 (h (c * S + s) (omega (arith, grid-lt C S c s hc hs)) ∙ supply-chooser (c * S + s) (grid-lt C S c s hc hs)));
+      chooser = λ c s hc hs. omega (arith, sub-same (out (c * S + s)) (inn (c * S + s)) 1 0 (h (c * S + s) (omega (arith, grid-lt hc hs)) ∙ supply-chooser (c * S + s) (grid-lt hc hs)));
       choice = λ k hk hs. omega (arith, sub-same (out (C * S + k)) (inn (C * S + k)) 0 (frameOf l x g .least k) (h (C * S + k) (omega arith) ∙ supply-choice k hk hs));
       spare = λ k hk hs. omega (arith, sub-same (out (C * S + k)) (inn (C * S + k)) 0 0 (h (C * S + k) (omega arith) ∙ supply-spare k hk hs));
       room = λ s hs. omega (arith, sub-same (out (C * S + K + s)) (inn (C * S + K + s)) (coveredOf (frameOf l x g) s) C (h (C * S + K + s) (omega arith) ∙ supply-slot s hs));
@@ -165,7 +166,7 @@ module _ (l : Limits) (x : ModelInput) (g : Good l x) where
         (λ m u. subst Even (omega arith) (room (p - (C * S + K)) (omega arith))))
       where
         chooser : (c s : ℕ) → c < C → s < S → Even (c * S + s)
-        chooser c s hc hs = same-sub (out (c * S + s)) (inn (c * S + s)) 1 0 (omega (arith, b .chooser c s hc hs)) ∙ sym (supply-chooser (c * S + s) (grid-lt C S c s hc hs))
+        chooser c s hc hs = same-sub (out (c * S + s)) (inn (c * S + s)) 1 0 (omega (arith, b .chooser c s hc hs)) ∙ sym (supply-chooser (c * S + s) (grid-lt hc hs))
 
         choice : (k : ℕ) → k < K → Even (C * S + k)
         choice k hk = eq-cases (E k) 0

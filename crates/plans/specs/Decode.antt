@@ -16,7 +16,7 @@ use Rattle.counting.specs.Holds.{holds-in, holds-has}
 use Rattle.counting.specs.Ints.{eqZ}
 use Rattle.counting.specs.Lists.{length-table, table-at, length-join}
 use Rattle.counting.specs.Search.{firstTo, first-passes, first-found}
-use Rattle.counting.specs.Sums.{sum-const, OneHot, one-hot, one-hot-same}
+use Rattle.counting.specs.Sums.{sum-const, OneHot, one-hot, one-hot-same, grid-lt}
 use Rattle.counting.specs.Tests.{eq-cases, lt-cases, and-split, never}
 use Rattle.input_data.specs.Accepted.{first-zero}
 use Rattle.input_data.specs.Checks.{firstOf}
@@ -33,7 +33,7 @@ use Rattle.plans.specs.Model.{ModelInput, scheduleOf, countOf, listOf, s
 use Rattle.plans.specs.Read.{read}
 use Rattle.plans.specs.Good.{Good, good}
 use Rattle.plans.specs.Pairs.{gate-on, gate-one, and-join, sum-ext, value}
-use Rattle.plans.specs.Flow.{Flow, capOf, accepted-flow, grid-lt}
+use Rattle.plans.specs.Flow.{Flow, capOf, accepted-flow}
 use Rattle.plans.specs.SeatPairs.{frameOf, isSeat, seat-present, edgeCount, rowAt, itemAt, model-edges, read-value}
 use Rattle.plans.specs.Balance.{Passed, tests-passed}
 
@@ -72,7 +72,7 @@ module _ (n m : ℕ) (f : ℕ → ℕ → ℕ) where
   rows-at (suc k) c s hc hs = rw (fold-suc _++_ [] k (λ c. tableTo m (f c))) (eq-cases c k
       (λ p t. rw (p, ← rows-length k) (getD-append-add (rows k) (tableTo m (f k)) s 0 ∙ table-at m (f k) 0 s hs))
       (λ p t. let i : c < k = omega arith in
-      List·getD-append (rows k) (tableTo m (f k)) 0 (c * m + s) (omega (arith, rows-length k, grid-lt k m c s i hs)) ∙ rows-at k c s i hs))
+      List·getD-append (rows k) (tableTo m (f k)) 0 (c * m + s) (omega (arith, rows-length k, grid-lt i hs)) ∙ rows-at k c s i hs))
 
 -- a value that is not negative is 1 if its magnitude is
 one-is : (z : ℤ) → nonNeg z ≡ true → eqZ z (pos 1) ≡ eqb (mag z) 1

@@ -9,9 +9,9 @@ use native.Mathlib.Omega.{arith}
 use lib.Dec.{eqb, ltb}
 use borrow.Author.Tests.{eqb-true, eqb-false, eq-eqb, ne-eqb, lt-ltb, le-ltb, ltb-true, not-true}
 use Rattle.counting.specs.Fold.{gate, sumTo}
-use Rattle.counting.specs.Sums.{sum-zeros, sum-only}
+use Rattle.counting.specs.Sums.{sum-zeros, sum-only, sum-below, grid-lt}
 use Rattle.counting.specs.Tests.{bool-cases, eq-cases, lt-cases, and-split}
-use Rattle.plans.specs.Pairs.{gate-alike, and-join, eqb-as, pair-true, sum-ext, sum-ext2, row-sum, col-sum, sum-below, Pairs, value, pairs-has, value-at, value-off, value-of, value-sum}
+use Rattle.plans.specs.Pairs.{gate-alike, and-join, eqb-as, pair-true, sum-ext, sum-ext2, row-sum, col-sum, Pairs, value, pairs-has, value-at, value-off, value-of, value-sum}
 
 -- what a model is made from: an entry is 0 for none and s + 1 for slot s
 pub record Frame : Type 0 where
@@ -25,9 +25,6 @@ pub record Frame : Type 0 where
   pub fits : (k : ℕ) → k < choices → entry k ≤ slots
 
 -- ---- numbers on a grid
-
-pub grid-lt : (n m a b : ℕ) → a < n → b < m → a * m + b < n * m
-grid-lt n m a b h l = omega (arith, mul-le-mul-right m h)
 
 pub grid-same : (m a b c d : ℕ) → b < m → d < m → a * m + b ≡ c * m + d → (a ≡ c) × (b ≡ d)
 grid-same m a b c d hb hd e = eq-cases a c
@@ -99,25 +96,25 @@ module _ (f : Frame) where
         (λ l t. rw t (eqb-as (a * slots + (entry b - 1)) (c * slots + s) (eqb a c && eqb (entry b - 1) s)
         (λ e. let r = grid-same slots a (entry b - 1) c s inside h e in and-join (eq-eqb a c (r .0)) (eq-eqb (entry b - 1) s (r .1)))
         (λ e. let r = pair-true a (entry b - 1) c s e in ap₂ (λ (x y : ℕ). x * slots + y) (r .0) (r .1))))
-        (λ l t. rw (t, ne-eqb a c (λ (e : a ≡ c). omega arith)) (ne-eqb (choosers * slots + b) (c * slots + s) (λ e. omega (arith, grid-lt choosers slots c s hc h)))))
+        (λ l t. rw (t, ne-eqb a c (λ (e : a ≡ c). omega arith)) (ne-eqb (choosers * slots + b) (c * slots + s) (λ e. omega (arith, grid-lt hc h)))))
 
     from-choice : (k : ℕ) → eqb (fromOf a b) (choosers * slots + k) ≡ (eqb a choosers && eqb b k)
     unfolding fromOf
     from-choice k = lt-cases a choosers
-        (λ l t. rw (t, ne-eqb a choosers (λ (e : a ≡ choosers). omega arith)) (ne-eqb (a * slots + (entry b - 1)) (choosers * slots + k) (λ e. omega (arith, grid-lt choosers slots a (entry b - 1) l inside))))
+        (λ l t. rw (t, ne-eqb a choosers (λ (e : a ≡ choosers). omega arith)) (ne-eqb (a * slots + (entry b - 1)) (choosers * slots + k) (λ e. omega (arith, grid-lt l inside))))
         (λ l t. rw (t, eq-eqb a choosers (omega (arith, p .row))) (eqb-as (choosers * slots + b) (choosers * slots + k) (eqb b k) (λ e. eq-eqb b k (omega arith)) (λ e. ap (λ (z : ℕ). choosers * slots + z) (eqb-true b k e))))
 
     from-slot : (s : ℕ) → eqb (fromOf a b) (choosers * slots + choices + s) ≡ false
     unfolding fromOf
     from-slot s = lt-cases a choosers
-        (λ l t. rw t (ne-eqb (a * slots + (entry b - 1)) (choosers * slots + choices + s) (λ e. omega (arith, grid-lt choosers slots a (entry b - 1) l inside))))
+        (λ l t. rw t (ne-eqb (a * slots + (entry b - 1)) (choosers * slots + choices + s) (λ e. omega (arith, grid-lt l inside))))
         (λ l t. rw t (ne-eqb (choosers * slots + b) (choosers * slots + choices + s) (λ e. omega (arith, p .item))))
 
     to-chooser : (c s : ℕ) → c < choosers → s < slots → eqb (toOf a b) (c * slots + s) ≡ false
     unfolding toOf
     to-chooser c s hc h = lt-cases a choosers
-        (λ l t. rw t (ne-eqb (choosers * slots + b) (c * slots + s) (λ e. omega (arith, grid-lt choosers slots c s hc h))))
-        (λ l t. rw t (ne-eqb (choosers * slots + choices + (entry b - 1)) (c * slots + s) (λ e. omega (arith, grid-lt choosers slots c s hc h))))
+        (λ l t. rw t (ne-eqb (choosers * slots + b) (c * slots + s) (λ e. omega (arith, grid-lt hc h))))
+        (λ l t. rw t (ne-eqb (choosers * slots + choices + (entry b - 1)) (c * slots + s) (λ e. omega (arith, grid-lt hc h))))
 
     to-choice : (k : ℕ) → k < choices → eqb (toOf a b) (choosers * slots + k) ≡ (ltb a choosers && eqb b k)
     unfolding toOf
@@ -201,7 +198,7 @@ module _ (f : Frame) where
 
     pub in-choice : (k : ℕ) → k < choices → meets n to v (choosers * slots + k) ≡ sumTo choosers (λ c. at c k)
     in-choice k hk = node-sum to (toOf f) (es .to-is) (choosers * slots + k) (λ a b. ltb a choosers && eqb b k) (λ a b h. to-choice f a b h k hk)
-        ∙ col-sum (suc choosers) choices at (λ a. ltb a choosers) k hk ∙ sum-below choosers (λ a. at a k)
+        ∙ col-sum (suc choosers) choices at (λ a. ltb a choosers) k hk ∙ sum-below (suc choosers) choosers (λ a. at a k) (omega arith)
 
     pub out-slot : (s : ℕ) → meets n from v (choosers * slots + choices + s) ≡ 0
     out-slot s = nothing from (fromOf f) (es .from-is) (choosers * slots + choices + s) (λ a b h. from-slot f a b h s)

@@ -8,6 +8,7 @@ use borrow.Author.Tests.{eqb-true, ltb-false, not-false}
 use Rattle.counting.specs.Tests.{or-split, none-each, never}
 use Rattle.input_data.specs.Lengths.{Within, listsLength}
 use Rattle.input_data.specs.declared.Limits.{Limits}
+use Rattle.input_data.specs.declared.checks.Beside.{Beside}
 use Rattle.scheduling.specs.Schedule.{entryAt}
 use Rattle.slot_lists.specs.Held.{Held, held, misheld}
 use Rattle.schedule_state.specs.Blocks.{cell}
@@ -32,17 +33,21 @@ unlike-not true false e = never e
 unlike-not false true e = never e
 unlike-not false false e = refl
 
+-- where the lengths are right, the lists have theirs
+pub handed-model : (l : Limits) (b : Beside) (size : ℕ) (tables buffers short : Bool) → Within l → b .lengths ≡ (tables || ltb size (listsLength l) || buffers || short) → Handed l b size
+handed-model l b size tables buffers short w e = record {
+  within = w;
+  room = λ f.
+      let p : ((tables || ltb size (listsLength l) || buffers) ≡ false) × (short ≡ false) = or-split (rw e at f) in
+      let q : ((tables || ltb size (listsLength l)) ≡ false) × (buffers ≡ false) = or-split (p .0) in
+      let r : (tables ≡ false) × (ltb size (listsLength l) ≡ false) = or-split (q .0) in
+      ltb-false size (listsLength l) (r .1);
+}
+
 module _ (l : Limits) (x : ModelInput) (lens : Lengths) (short : Bool) (w : Within l) (e : numberWith l x lens short ≡ 0) where
   -- the lists' length is one of the lengths that these calls test
   handed : Handed l (besideModel l x lens short) (length (x .lists))
-  handed = record {
-    within = w;
-    room = λ t.
-        let p : (((wrongTables x || ltb (length (x .lists)) (listsLength l)) || shortBuffers l lens) ≡ false) × (short ≡ false) = or-split t in
-        let q : ((wrongTables x || ltb (length (x .lists)) (listsLength l)) ≡ false) × (shortBuffers l lens ≡ false) = or-split (p .0) in
-        let r : (wrongTables x ≡ false) × (ltb (length (x .lists)) (listsLength l) ≡ false) = or-split (q .0) in
-        ltb-false (length (x .lists)) (listsLength l) (r .1);
-  }
+  handed = handed-model l (besideModel l x lens short) (length (x .lists)) (wrongTables x) (shortBuffers l lens) short w refl
 
   pub model-accepted : StateAccepted l (x .day) (x .state) (besideModel l x lens short) (x .lists)
   model-accepted = state-accepted l (x .day) (x .state) (besideModel l x lens short) (x .lists) handed e

@@ -93,11 +93,6 @@ col-sum n m f u k h =
     sum-ext m (λ b. gate (u a && eqb b k) (f a b)) (λ b. gate (u a) (gate (eqb b k) (f a b))) (λ b j. gate-and (u a) (eqb b k) (f a b))
     ∙ sum-gate m (u a) (λ b. gate (eqb b k) (f a b)) ∙ ap (λ (x : ℕ). gate (u a) x) (sum-only m (λ b. f a b) k h))
 
--- the terms below n alone, in a sum that is one longer
-pub sum-below : (n : ℕ) (f : ℕ → ℕ) → sumTo (suc n) (λ a. gate (ltb a n) (f a)) ≡ sumTo n f
-sum-below n f = fold-suc _+_ 0 n (λ a. gate (ltb a n) (f a)) ∙ rw (le-ltb n n (omega arith)) (
-    let e : sumTo n (λ a. gate (ltb a n) (f a)) ≡ sumTo n f = sum-ext n (λ a. gate (ltb a n) (f a)) f (λ a l. gate-on (f a) (lt-ltb a n l)) in omega arith)
-
 -- ---- pairs
 
 abbrev pub pairEq : ℕ → ℕ → ℕ → ℕ → Bool

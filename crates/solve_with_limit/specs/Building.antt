@@ -11,7 +11,7 @@ use lib.IntN.{ℤ, pos}
 use lib.ListN.{length, getD, replicate, length-map, length-append, length-replicate, getD-replicate, List·getD-eq-default}
 use borrow.Author.Tests.{eqb-true, ltb-false, lt-ltb, le-ltb, not-false, ne-eqb}
 use Rattle.counting.specs.Fold.{gate, sumTo, fold-suc, fold-none, fold-ext}
-use Rattle.counting.specs.Sums.{sum-zeros, sum-mono, sum-swap, sum-le, sum-const, sum-pick}
+use Rattle.counting.specs.Sums.{sum-zeros, sum-mono, sum-swap, sum-le, sum-const, sum-pick, sum-below}
 use Rattle.counting.specs.Tests.{or-split, none-each, lt-cases, eqb-sym}
 use Rattle.counting.specs.Holds.{holds-in}
 use Rattle.counting.specs.Written.{written, written-then, Put}
@@ -128,12 +128,6 @@ weighed-all f n slots = omega (
 
         pick : (t : ℕ) → sumTo slots (λ s. gate (eqb s t) 1) ≤ 1
         pick t = lt-cases t slots (λ b v. omega (arith, rw v at (sum-pick slots (λ s. 1) t))) (λ b v. omega (arith, rw v at (sum-pick slots (λ s. 1) t)))
-
-sum-below : (m n : ℕ) (f : ℕ → ℕ) → n ≤ m → sumTo m (λ k. gate (ltb k n) (f k)) ≡ sumTo n f
-sum-below zero n f h = let z : n ≡ 0 = omega arith in rw z (fold-none _+_ 0 (λ k. gate (ltb k 0) (f k)) ∙ sym (fold-none _+_ 0 f))
-sum-below (suc m) n f h = lt-cases m n
-    (λ b v. let z : n ≡ suc m = omega arith in rw z (fold-ext _+_ 0 (suc m) (λ k. gate (ltb k (suc m)) (f k)) f (λ k c. ap (λ (t : Bool). gate t (f k)) (lt-ltb k (suc m) c))))
-    (λ b v. fold-suc _+_ 0 m (λ k. gate (ltb k n) (f k)) ∙ rw v (omega (arith, sum-below m n f b)))
 
 module _ {l : Limits} {x : ModelInput} (g : Good l x) where
   abbrev f : ℕ → ℕ

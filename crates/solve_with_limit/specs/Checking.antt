@@ -14,6 +14,7 @@ use borrow.Author.Tests.{ltb-false, ne-eqb}
 use Rattle.counting.specs.Fold.{anyTo, fold-ext, tableTo}
 use Rattle.counting.specs.Ints.{eqZ}
 use Rattle.counting.specs.Lists.{length-table}
+use Rattle.counting.specs.Sums.{grid-lt}
 use Rattle.counting.specs.Tests.{eq-cases, lt-cases, or-split}
 use Rattle.counting.specs.Written.{written, written-at, written-is, length-written}
 use Rattle.input_data.specs.Checks.{firstOf}
@@ -26,8 +27,7 @@ use Rattle.mip_flow.specs.declared.Lengths.{Lengths}
 use Rattle.edge_groups.specs.Groups.{flat, endsFrom, groupsOf, blockedOf}
 use Rattle.edge_groups.specs.Laws.{entries-there, blocked-there, groupStart, groupEnd, ends-ascend, end-within, group-read}
 use Rattle.edge_groups.specs.Stored.{ends-length}
-use Rattle.edge_groups.specs.Bounds.{Few, few-then, list-few, dependent-few, stored-most}
-use Rattle.edge_groups.specs.Names.{names}
+use Rattle.edge_groups.specs.Bounds.{Few, names-few, stored-most}
 use Rattle.mip_flow.specs.Index.{edgeOf, numberAt}
 use Rattle.slot_lists.specs.Lists.{part-length, part-at}
 use Rattle.edge_values.specs.Values.{valueAt, outside, outsideAt, someOutside, usedAt, someUsed, isUneven, unevenAt, someUneven, flowAt, flow, unbalancedAt, someUnbalanced, Network, valuesNumber}
@@ -37,7 +37,7 @@ use Rattle.edge_values.specs.Decode.{decoded}
 use Rattle.edge_values.specs.Decoding.{Decoding}
 use Rattle.plans.specs.Decode.{found}
 use Rattle.solve_with_limit.specs.Alike.{first-same, decoded-same}
-use Rattle.plans.specs.Flow.{Present, present-true, fromOf, toOf, capOf, grid-lt}
+use Rattle.plans.specs.Flow.{Present, present-true, fromOf, toOf, capOf}
 use Rattle.plans.specs.Good.{Good, good}
 use Rattle.plans.specs.Model.{ModelInput, sizesOf, scheduleOf, countOf, listOf, seatsOf, choicesOf, namesOf, networkOf, planOf, numberWith, shortValues, enterNumber}
 use Rattle.plans.specs.Pairs.{pairs-in}
@@ -110,7 +110,7 @@ module _ (l : Limits) (x : ModelInput) (g : Good l x) (i : ℕ) (h : i < edgeCou
       let p = there in
       let s = g .fits (itemAt l x i) (p .item) in
       rw (model-edges l x g .from-is i h) (lt-cases (rowAt l x i) C
-      (λ b e. rw e (omega (arith, few, grid-lt C S (rowAt l x i) (entryAt (scheduleOf x) (itemAt l x i) - 1) b (omega (arith, s, p .placed)))))
+      (λ b e. rw e (omega (arith, few, grid-lt {m = S} {b = entryAt (scheduleOf x) (itemAt l x i) - 1} b (omega (arith, s, p .placed)))))
       (λ b e. rw e (omega (arith, few, p .item, choices-most (g .ready)))))
 
   pub to-below : getD (networkOf l x .to) i 0 < 552
@@ -150,15 +150,14 @@ module _ {l : Limits} {x : ModelInput} (g : Good l x) where
   max-length = maps-length _ _ (seatsOf l x) (choicesOf x)
 
   -- what the groups and the blocked list use: document 01's lengths are enough
-  names-few : Few (namesOf l x) 4096 2048
-  unfolding namesOf names
-  names-few = few-then
-      (list-few (edgeOf (seatsOf l x)) (sizesOf l (x .day)) (countOf x) (listOf l x) (omega (arith, counts-all g, choices-most (g .ready))) (x .day .assignment) (g .ready .day .assignment .count))
-      (dependent-few (edgeOf (seatsOf l x)) (sizesOf l (x .day)) (scheduleOf x) (x .day .lengths) (x .day .members) (choosers-most (g .ready)) (x .day .groups) (g .ready .day .groups) (omega (arith, members-are g, g .ready .day .members)))
+  few-names : Few (namesOf l x) 4096 2048
+  unfolding namesOf
+  few-names = names-few (edgeOf (seatsOf l x)) (sizesOf l (x .day)) (scheduleOf x) (countOf x) (listOf l x) (x .day .assignment) (x .day .groups) (x .day .lengths) (x .day .members)
+      (omega (arith, counts-all g, choices-most (g .ready))) (g .ready .day .assignment .count) (choosers-most (g .ready)) (g .ready .day .groups) (omega (arith, members-are g, g .ready .day .members))
 
   pub groups-fit : (length (flat (networkOf l x .groups)) ≤ 4096) × (length (networkOf l x .groups) ≤ 2048) × (length (networkOf l x .blocked) ≤ 4096)
   unfolding networkOf
-  groups-fit = stored-most (length (seatsOf l x)) names-few
+  groups-fit = stored-most (length (seatsOf l x)) few-names
 
   entry-below : (i : ℕ) → i < length (flat (networkOf l x .groups)) → getD (flat (networkOf l x .groups)) i 0 < length (seatsOf l x)
   unfolding networkOf

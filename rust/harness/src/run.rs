@@ -1,5 +1,6 @@
 //! The run of one suite: its cases are numbered, each has random numbers of its
 //! own, and a failed one says how to run it again.
+use crate::features::Features;
 use crate::panics::caught;
 use crate::random::Random;
 use std::fmt::Debug;
@@ -9,6 +10,15 @@ const PRINTED: u64 = 20;
 
 /// The random days of a suite that names no other number.
 const DAYS: u64 = 5_000;
+
+/// How many random days a suite has.
+#[derive(Debug, Clone, Copy)]
+pub struct Days {
+    /// Days that the gate runs.
+    pub usual: u64,
+    /// Fewer days than these need not show every feature.
+    pub for_features: u64,
+}
 
 /// What the whole run was told.
 #[derive(Debug, Clone)]
@@ -72,12 +82,7 @@ impl<'a> Run<'a> {
     }
 
     pub fn count(&self) -> u64 {
-        self.days(DAYS)
-    }
-
-    /// As many days as the run was told, or else these.
-    pub fn days(&self, usual: u64) -> u64 {
-        self.settings.count.unwrap_or(usual)
+        self.settings.count.unwrap_or(DAYS)
     }
 
     pub fn records(&self) -> Option<&'a str> {
@@ -91,6 +96,23 @@ impl<'a> Run<'a> {
         if self.settings.case.is_none_or(|only| only == case) {
             let mut random = Random::of_case(self.settings.seed, self.suite, case);
             self.judge(Some(case), || test(&mut random));
+        }
+    }
+
+    /// A case for each day, as many as the run was told or else the usual ones,
+    /// and one over all of them: they have shown every feature.
+    pub fn each_day(
+        &mut self,
+        days: Days,
+        features: &mut Features,
+        one_day: impl Fn(&mut Random, &mut Features) -> Outcome,
+    ) {
+        let count = self.settings.count.unwrap_or(days.usual);
+        for _ in 0..count {
+            self.case(|random| one_day(random, features));
+        }
+        if count >= days.for_features {
+            self.over_all(|| features.all_seen());
         }
     }
 

@@ -5,7 +5,8 @@ use Rattle.counting.specs.Fold.{joinTo}
 use Rattle.counting.specs.Written.{Put, put-empty}
 use Rattle.edge_groups.specs.Groups.{present}
 use Rattle.edge_groups.specs.Names.{memberNameAt, chooserNames}
-use Rattle.edge_groups.specs.Stored.{storing, put-length, present-start, present-more, present-done}
+use Rattle.edge_groups.specs.Stored.{storing, present-start, present-more, present-done}
+use Rattle.counting.specs.Written.{put-length}
 use Rattle.edge_groups.specs.Bounds.{present-length, members-length}
 use Rattle.mip_flow.specs.Index.{numberAt}
 use Rattle.edge_groups.proofs.dependent.put_present.Statement.{statement}

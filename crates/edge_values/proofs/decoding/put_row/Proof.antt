@@ -8,7 +8,8 @@ use Rattle.scheduling.specs.Schedule.{entryAt}
 use Rattle.slot_lists.specs.Lists.{listed}
 use Rattle.edge_values.specs.Decode.{choiceFor}
 use Rattle.mip_flow.specs.Index.{numberAt}
-use Rattle.edge_values.specs.Decoding.{place-in, row-in, resize}
+use Rattle.edge_values.specs.Decoding.{row-in, resize}
+use Rattle.counting.specs.Sums.{grid-lt}
 use Rattle.edge_values.proofs.decoding.put_row.Statement.{statement}
 use Rattle.edge_values.proofs.decoding.put_row.Tie as tie
 use Rattle.edge_values.proofs.decoding.put_row.Reads as reads
@@ -35,11 +36,11 @@ choice-in-requires c κs = let p = c .before .before .before .before .before .be
 
 -- src/decoding.rt:87:14
 add-plan : tie.Need-add-plan Inv-loop μ-loop
-add-plan c = let p = c .before .before .before .before .before .before .before .pre in omega (arith, p .1 .room, c .before .before .before .loop .inv .1, place-in _ _ _ _ (p .0) (c .before .if1 .taken))
+add-plan c = let p = c .before .before .before .before .before .before .before .pre in omega (arith, p .1 .room, c .before .before .before .loop .inv .1, grid-lt (p .0) (c .before .if1 .taken))
 
 -- src/decoding.rt:87:9
 slice-write-plan : tie.Need-slice-write-plan Inv-loop μ-loop
-slice-write-plan c = let p = c .before .before .before .before .before .before .before .pre in omega (arith, p .1 .room, c .before .before .before .loop .inv .1, fill-length (c .before .before .before .loop .inv .2), place-in _ _ _ _ (p .0) (c .before .if1 .taken))
+slice-write-plan c = let p = c .before .before .before .before .before .before .before .pre in omega (arith, p .1 .room, c .before .before .before .loop .inv .1, fill-length (c .before .before .before .loop .inv .2), grid-lt (p .0) (c .before .if1 .taken))
 
 -- src/decoding.rt:88:9
 add-s : tie.Need-add-s Inv-loop μ-loop

@@ -7,7 +7,8 @@ use native.Mathlib.Omega.{arith}
 use lib.ListN.{length}
 use Rattle.counting.specs.Written.{put-empty}
 use Rattle.mip_flow.specs.Edges.{Offer, offer, preferenceOf, isOpen}
-use Rattle.mip_flow.specs.Stored.{storingSeats, seat-far, seat-blocked, seat-open, put-seat, cell-lt}
+use Rattle.mip_flow.specs.Stored.{storingSeats, seat-far, seat-blocked, seat-open, put-seat}
+use Rattle.counting.specs.Sums.{grid-lt}
 use borrow.Author.Needs.{needs}
 use Rattle.mip_flow.proofs.edges.put_seat.Statement.{statement}
 use Rattle.mip_flow.proofs.edges.put_seat.Tie as tie
@@ -17,19 +18,19 @@ use Rattle.mip_flow.proofs.edges.put_seat_edge.Reads as put-seat-edge-r
 
 -- src/edges.rt:58:34
 mul-preference : tie.Need-mul-preference
-mul-preference c = omega (arith, cell-lt (c .before .before .before .before .before .pre .1) (c .before .before .before .before .before .pre .3), mul-le-mul (c .before .before .before .before .before .pre .0 .choosers) (c .before .before .before .before .before .pre .0 .choices))
+mul-preference c = omega (arith, grid-lt (c .before .before .before .before .before .pre .1) (c .before .before .before .before .before .pre .3), mul-le-mul (c .before .before .before .before .before .pre .0 .choosers) (c .before .before .before .before .before .pre .0 .choices))
 
 -- src/edges.rt:58:34
 add-preference : tie.Need-add-preference
-add-preference c = omega (arith, cell-lt (c .before .before .before .before .before .pre .1) (c .before .before .before .before .before .pre .3), mul-le-mul (c .before .before .before .before .before .pre .0 .choosers) (c .before .before .before .before .before .pre .0 .choices))
+add-preference c = omega (arith, grid-lt (c .before .before .before .before .before .pre .1) (c .before .before .before .before .before .pre .3), mul-le-mul (c .before .before .before .before .before .pre .0 .choosers) (c .before .before .before .before .before .pre .0 .choices))
 
 -- src/edges.rt:58:22
 mul-preference-2 : tie.Need-mul-preference-2
-mul-preference-2 c = omega (arith, cell-lt (c .before .before .before .before .before .pre .1) (c .before .before .before .before .before .pre .3), mul-le-mul (c .before .before .before .before .before .pre .0 .choosers) (c .before .before .before .before .before .pre .0 .choices))
+mul-preference-2 c = omega (arith, grid-lt (c .before .before .before .before .before .pre .1) (c .before .before .before .before .before .pre .3), mul-le-mul (c .before .before .before .before .before .pre .0 .choosers) (c .before .before .before .before .before .pre .0 .choices))
 
 -- src/edges.rt:58:22
 shared-slice-read-preference : tie.Need-shared-slice-read-preference
-shared-slice-read-preference c = omega (arith, cell-lt (c .before .before .before .before .before .before .pre .1) (c .before .before .before .before .before .before .pre .3), c .before .before .before .before .before .before .pre .0 .preferences)
+shared-slice-read-preference c = omega (arith, grid-lt (c .before .before .before .before .before .before .pre .1) (c .before .before .before .before .before .before .pre .3), c .before .before .before .before .before .before .pre .0 .preferences)
 
 -- src/edges.rt:60:9
 returns : tie.Need-returns
@@ -54,11 +55,11 @@ returns-2 c = let a = c .before .before .before .before .before .before .before 
 
 -- src/edges.rt:66:13
 mul-f : tie.Need-mul-f
-mul-f c = omega (arith, cell-lt (c .before .before .before .before .before .before .before .before .before .before .pre .1) (c .before .before .before .before .before .before .before .before .before .before .pre .2), mul-le-mul (c .before .before .before .before .before .before .before .before .before .before .pre .0 .choosers) (c .before .before .before .before .before .before .before .before .before .before .pre .0 .slots))
+mul-f c = omega (arith, grid-lt (c .before .before .before .before .before .before .before .before .before .before .pre .1) (c .before .before .before .before .before .before .before .before .before .before .pre .2), mul-le-mul (c .before .before .before .before .before .before .before .before .before .before .pre .0 .choosers) (c .before .before .before .before .before .before .before .before .before .before .pre .0 .slots))
 
 -- src/edges.rt:66:13
 add-f : tie.Need-add-f
-add-f c = omega (arith, cell-lt (c .before .before .before .before .before .before .before .before .before .before .pre .1) (c .before .before .before .before .before .before .before .before .before .before .pre .2), mul-le-mul (c .before .before .before .before .before .before .before .before .before .before .pre .0 .choosers) (c .before .before .before .before .before .before .before .before .before .before .pre .0 .slots))
+add-f c = omega (arith, grid-lt (c .before .before .before .before .before .before .before .before .before .before .pre .1) (c .before .before .before .before .before .before .before .before .before .before .pre .2), mul-le-mul (c .before .before .before .before .before .before .before .before .before .before .pre .0 .choosers) (c .before .before .before .before .before .before .before .before .before .before .pre .0 .slots))
 
 -- src/edges.rt:67:13
 mul-t : tie.Need-mul-t
@@ -78,11 +79,11 @@ mul-price c = search needs
 
 -- src/edges.rt:68:17
 shared-slice-copy-out-price : tie.Need-shared-slice-copy-out-price
-shared-slice-copy-out-price c = c .before .before .before .before .before .before .before .before .before .before .before .pre .0 .priced _ (omega (arith, cell-lt (c .before .before .before .before .before .before .before .before .before .before .before .pre .1) (c .before .before .before .before .before .before .before .before .before .before .before .pre .3), c .before .before .before .before .before .before .before .before .before .before .before .pre .0 .preferences))
+shared-slice-copy-out-price c = c .before .before .before .before .before .before .before .before .before .before .before .pre .0 .priced _ (omega (arith, grid-lt (c .before .before .before .before .before .before .before .before .before .before .before .pre .1) (c .before .before .before .before .before .before .before .before .before .before .before .pre .3), c .before .before .before .before .before .before .before .before .before .before .before .pre .0 .preferences))
 
 -- src/edges.rt:69:5
 put-seat-edge-requires : tie.Need-put-seat-edge-requires
-put-seat-edge-requires c κs = (c .before .before .before .before .before .before .before .before .before .before .before .before .before .before .before .before .before .pre .4, omega (arith, cell-lt (c .before .before .before .before .before .before .before .before .before .before .before .before .before .before .before .before .before .pre .1) (c .before .before .before .before .before .before .before .before .before .before .before .before .before .before .before .before .before .pre .2), mul-le-mul (c .before .before .before .before .before .before .before .before .before .before .before .before .before .before .before .before .before .pre .0 .choosers) (c .before .before .before .before .before .before .before .before .before .before .before .before .before .before .before .before .before .pre .0 .slots)), omega (arith, mul-le-mul (c .before .before .before .before .before .before .before .before .before .before .before .before .before .before .before .before .before .pre .0 .choosers) (c .before .before .before .before .before .before .before .before .before .before .before .before .before .before .before .before .before .pre .0 .slots), c .before .before .before .before .before .before .before .before .before .before .before .before .before .before .before .before .before .pre .3, c .before .before .before .before .before .before .before .before .before .before .before .before .before .before .before .before .before .pre .0 .choices), omega (arith, c .before .before .before .before .before .before .before .before .before .before .before .before .before .before .before .before .before .pre .1, c .before .before .before .before .before .before .before .before .before .before .before .before .before .before .before .before .before .pre .0 .choosers, c .before .before .before .before .before .before .before .before .before .before .before .before .before .before .before .before .before .pre .3, c .before .before .before .before .before .before .before .before .before .before .before .before .before .before .before .before .before .pre .0 .choices))
+put-seat-edge-requires c κs = (c .before .before .before .before .before .before .before .before .before .before .before .before .before .before .before .before .before .pre .4, omega (arith, grid-lt (c .before .before .before .before .before .before .before .before .before .before .before .before .before .before .before .before .before .pre .1) (c .before .before .before .before .before .before .before .before .before .before .before .before .before .before .before .before .before .pre .2), mul-le-mul (c .before .before .before .before .before .before .before .before .before .before .before .before .before .before .before .before .before .pre .0 .choosers) (c .before .before .before .before .before .before .before .before .before .before .before .before .before .before .before .before .before .pre .0 .slots)), omega (arith, mul-le-mul (c .before .before .before .before .before .before .before .before .before .before .before .before .before .before .before .before .before .pre .0 .choosers) (c .before .before .before .before .before .before .before .before .before .before .before .before .before .before .before .before .before .pre .0 .slots), c .before .before .before .before .before .before .before .before .before .before .before .before .before .before .before .before .before .pre .3, c .before .before .before .before .before .before .before .before .before .before .before .before .before .before .before .before .before .pre .0 .choices), omega (arith, c .before .before .before .before .before .before .before .before .before .before .before .before .before .before .before .before .before .pre .1, c .before .before .before .before .before .before .before .before .before .before .before .before .before .before .before .before .before .pre .0 .choosers, c .before .before .before .before .before .before .before .before .before .before .before .before .before .before .before .before .before .pre .3, c .before .before .before .before .before .before .before .before .before .before .before .before .before .before .before .before .before .pre .0 .choices))
 
 -- src/edges.rt:39:1
 same-length : tie.Need-same-length

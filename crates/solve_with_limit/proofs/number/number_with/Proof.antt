@@ -5,7 +5,8 @@ use native.Mathlib.Omega.{arith}
 use lib.Dec.{ltb}
 use borrow.Author.Tests.{ltb-false}
 use Rattle.counting.specs.Tests.{so, or-split}
-use Rattle.solve_with_limit.specs.Numbers.{number-many, handed-model}
+use Rattle.plans.specs.Good.{handed-model}
+use Rattle.solve_with_limit.specs.Numbers.{number-many}
 use borrow.Author.Needs.{needs}
 use Rattle.solve_with_limit.proofs.number.number_with.Statement.{statement}
 use Rattle.solve_with_limit.proofs.number.number_with.Tie as tie

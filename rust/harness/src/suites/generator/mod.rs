@@ -11,13 +11,12 @@ use crate::bridge;
 use crate::day::{Day, Size, random_day, random_size};
 use crate::features::Features;
 use crate::random::Random;
-use crate::run::{Outcome, Run};
+use crate::run::{Days, Outcome, Run};
 use crate::schedule::Schedule;
 pub use models::look as look_at_model;
 use oracle::{Problem, Solver};
 
-/// Fewer days than these need not show every feature.
-const DAYS_FOR_FEATURES: u64 = 2_000;
+const DAYS: Days = Days { usual: 5_000, for_features: 2_000 };
 
 /// A day with the schedule that the originals were led to.
 struct Scene<'a> {
@@ -37,12 +36,7 @@ impl Scene<'_> {
 
 pub fn run(run: &mut Run) {
     let mut features = Features::default();
-    for _ in 0..run.count() {
-        run.case(|random| one_day(random, &mut features));
-    }
-    if run.count() >= DAYS_FOR_FEATURES {
-        run.over_all(|| features.all_seen());
-    }
+    run.each_day(DAYS, &mut features, one_day);
 }
 
 fn one_day(random: &mut Random, features: &mut Features) -> Outcome {

@@ -4,7 +4,7 @@
 use super::calls::{Asked, Calls};
 use super::lent::{BUFFERS, OF_MODEL, VALUES, random_lengths};
 use super::scene::{Scene, random_model_day};
-use super::{DAYS, DAYS_FOR_FEATURES, random_limit};
+use super::{DAYS, random_limit};
 use crate::answers;
 use crate::boundary;
 use crate::bridge;
@@ -49,12 +49,7 @@ pub fn run(run: &mut Run) {
     }
     let damages = damage::of_models();
     let mut features = refused::features(&damages, &NUMBERS);
-    for _ in 0..run.days(DAYS) {
-        run.case(|random| one_day(random, &damages, &mut features));
-    }
-    if run.days(DAYS) >= DAYS_FOR_FEATURES {
-        run.over_all(|| features.all_seen());
-    }
+    run.each_day(DAYS, &mut features, |random, features| one_day(random, &damages, features));
 }
 
 /// The sample day with a wrong length: each call gives its number.

@@ -3,7 +3,7 @@
 //! reading gives.
 use super::scene::{Scene, random_model_day};
 use super::trial::Trial;
-use super::{DAYS_FOR_FEATURES, random_limit};
+use super::{DAYS, random_limit};
 use crate::bridge;
 use crate::damage::values::{DAMAGES, Damage};
 use crate::features::Features;
@@ -12,8 +12,6 @@ use crate::reading::Buffer;
 use crate::run::{Outcome, Run};
 use crate::suites::refused::{self, Numbers};
 
-/// Days that the gate runs.
-const DAYS: u64 = 20_000;
 /// Random values of each sort on each day.
 const TRIES: usize = 2;
 
@@ -22,12 +20,7 @@ const NUMBERS: Numbers = ("check_values", &[0, 14, 15, 16, 17]);
 
 pub fn run(run: &mut Run) {
     let mut features = refused::features(&[], &[NUMBERS]);
-    for _ in 0..run.days(DAYS) {
-        run.case(|random| one_day(random, &mut features));
-    }
-    if run.days(DAYS) >= DAYS_FOR_FEATURES {
-        run.over_all(|| features.all_seen());
-    }
+    run.each_day(DAYS, &mut features, one_day);
 }
 
 fn one_day(random: &mut Random, features: &mut Features) -> Outcome {

@@ -9,25 +9,17 @@ use crate::day::{CHOICES, Day, random_day, random_size};
 use crate::features::Features;
 use crate::lists::lengths;
 use crate::random::Random;
-use crate::run::{Outcome, Run};
+use crate::run::{Days, Outcome, Run};
 use crate::schedule::{CHAIN, random_chain, random_schedule};
 use crate::state::LISTS;
 use oracle::State;
 use walk::Walk;
 
-/// Days that the gate runs.
-const DAYS: u64 = 20_000;
-/// Fewer days than these need not show every feature.
-const DAYS_FOR_FEATURES: u64 = 2_000;
+const DAYS: Days = Days { usual: 20_000, for_features: 2_000 };
 
 pub fn run(run: &mut Run) {
     let mut features = Features::default();
-    for _ in 0..run.days(DAYS) {
-        run.case(|random| one_day(random, &mut features));
-    }
-    if run.days(DAYS) >= DAYS_FOR_FEATURES {
-        run.over_all(|| features.all_seen());
-    }
+    run.each_day(DAYS, &mut features, one_day);
 }
 
 fn one_day(random: &mut Random, features: &mut Features) -> Outcome {

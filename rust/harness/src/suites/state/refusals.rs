@@ -1,9 +1,9 @@
 //! Build, update and slot_list on damaged input: the number that the second
 //! reading gives, zeros beside it, and no byte changed. After each refused call
 //! the chain of schedules goes on from the old state.
+use super::DAYS;
 use super::scene::Scene;
 use super::walk::Walk;
-use super::{DAYS, DAYS_FOR_FEATURES};
 use crate::answers;
 use crate::bridge;
 use crate::damage::{self, Damage, Input};
@@ -30,12 +30,7 @@ const NUMBERS: [Numbers; 3] = [
 pub fn run(run: &mut Run) {
     let damages = damage::of_states();
     let mut features = refused::features(&damages, &NUMBERS);
-    for _ in 0..run.days(DAYS) {
-        run.case(|random| one_day(random, &damages, &mut features));
-    }
-    if run.days(DAYS) >= DAYS_FOR_FEATURES {
-        run.over_all(|| features.all_seen());
-    }
+    run.each_day(DAYS, &mut features, |random, features| one_day(random, &damages, features));
 }
 
 fn one_day(random: &mut Random, damages: &[&Damage], features: &mut Features) -> Outcome {
