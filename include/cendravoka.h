@@ -116,6 +116,62 @@ typedef struct {
     size_t blocked;
 } cendravoka_model_answer;
 
+/* How many entries a roster has. */
+typedef struct {
+    uint32_t number;
+    size_t length;
+} cendravoka_roster_answer;
+
+typedef struct {
+    uint32_t number;
+    bool found;
+} cendravoka_in_choice_answer;
+
+typedef struct {
+    uint32_t number;
+    uint32_t choice;
+} cendravoka_choice_answer;
+
+/* A plan that a search remembers, with its schedule and greedy setting. Zeros
+ * are no plan. It serves one day: where the day or its levels change, begin
+ * with zeros. */
+typedef struct {
+    bool there;
+    bool greedy;
+    cendravoka_scheduling schedule;
+    uint8_t plan[512];
+} cendravoka_cached_assignment;
+
+/* A preference search that is handed back after each ask. Hand it on as it is.
+ * asking: it waits to be told; otherwise it has ended. asks counts what it
+ * asked, the ask that waits too. start, low and high are indices of levels; a greedy search has none.
+ * found: plan is the best so far, and level the level that it was found at (0
+ * where it was remembered). optimal: no ask was answered by Incomplete, and a
+ * greedy one by nothing but Feasible. cached is what a later search remembers. */
+typedef struct {
+    bool asking;
+    bool greedy;
+    bool found;
+    bool optimal;
+    uint32_t asks;
+    uint32_t level;
+    size_t start;
+    size_t low;
+    size_t high;
+    cendravoka_scheduling schedule;
+    uint8_t plan[512];
+    cendravoka_cached_assignment cached;
+} cendravoka_search;
+
+/* Where the search asks: for a plan with no preference above level, which is
+ * the one at index (0 if greedy). Both are 0 where it does not ask. */
+typedef struct {
+    uint32_t number;
+    uint32_t level;
+    size_t index;
+    cendravoka_search search;
+} cendravoka_search_answer;
+
 /* A fresh build of the state of a schedule. The slot lists are written into
  * lists, of at least 256 bytes. Refused by 1, 2, 3, 4, 7, 8, 9, 10, 11. */
 cendravoka_state_answer cendravoka_build(cendravoka_input_data day, cendravoka_scheduling schedule,
@@ -182,6 +238,54 @@ cendravoka_model_answer cendravoka_check_values(
     uint16_t *ends, size_t ends_length,
     uint16_t *blocked, size_t blocked_length,
     uint8_t *plan, size_t plan_length);
+
+/* The calls on a plan. plan has exactly 512 bytes, the choice of chooser c in
+ * slot s at c * slots + s; bytes past the last seat are not read. Refused by 1,
+ * 2, 3, 4, 7, 8, 9 (what is asked about is outside the day, too), 10, 13 (an
+ * entry is no choice). */
+
+/* Assignment::choosers_ordered: the choosers of a choice, upward, each once for
+ * each slot in which it has the choice, into the front of roster, of at least
+ * 512 bytes. */
+cendravoka_roster_answer cendravoka_choosers_ordered(cendravoka_input_data day,
+                                                     const uint8_t *plan, size_t plan_length,
+                                                     size_t choice,
+                                                     uint8_t *roster, size_t roster_length);
+
+/* Assignment::choices_ordered: the choices of a chooser, upward, each once for
+ * each slot in which the chooser has it, into the front of roster. */
+cendravoka_roster_answer cendravoka_choices_ordered(cendravoka_input_data day,
+                                                    const uint8_t *plan, size_t plan_length,
+                                                    size_t chooser,
+                                                    uint8_t *roster, size_t roster_length);
+
+/* Assignment::is_in_choice. */
+cendravoka_in_choice_answer cendravoka_is_in_choice(cendravoka_input_data day,
+                                                    const uint8_t *plan, size_t plan_length,
+                                                    size_t chooser, size_t choice);
+
+/* Assignment::choice_of. */
+cendravoka_choice_answer cendravoka_choice_of(cendravoka_input_data day,
+                                              const uint8_t *plan, size_t plan_length,
+                                              size_t chooser, size_t slot);
+
+/* AssignmentSolver::solve_until, begun: the search for a plan of this schedule
+ * at the least preference level from bound on, with what an earlier search of
+ * the day remembered in cached. Refused by 1, 3, 4, 5, 7, 8, 9, 10, 11 (also of
+ * a remembered schedule), 13 (of a remembered plan). */
+cendravoka_search_answer cendravoka_begin(cendravoka_input_data day, cendravoka_scheduling schedule,
+                                          const uint32_t *levels, size_t levels_length,
+                                          uint32_t bound, bool greedy,
+                                          cendravoka_cached_assignment cached);
+
+/* A search is told the answer to its ask. result: 0 feasible, with the plan of
+ * exactly 512 bytes; 1 infeasible; anything else incomplete; without a feasible
+ * result the plan is not looked at. levels are those that it was begun with.
+ * Refused as begin, with 11 and 13 of the search's own schedule and best plan
+ * too, by 2 and 13 of the told plan, and by 18. */
+cendravoka_search_answer cendravoka_tell(cendravoka_input_data day, cendravoka_search search,
+                                         const uint32_t *levels, size_t levels_length,
+                                         uint32_t result, const uint8_t *plan, size_t plan_length);
 
 /* Constraint::negation. 9: kind 6, SlotHasLimitedSize, without an operator. */
 cendravoka_negation_answer cendravoka_negation(uint32_t kind, uint32_t left, uint32_t target_case,

@@ -2,5 +2,6 @@
 pub mod Constraints
 pub mod Scores
 pub mod States
+pub mod Searches
 pub mod SampleDay
 pub mod SampleRun

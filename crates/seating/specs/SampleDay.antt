@@ -1,14 +1,15 @@
 -- Document 01's sample day: the rows marked P that are there so far, proved together as one fact about one list.
 use Prim.Native.Nat.{ℕ, _≤_}
-use mathlib.Core.Path.{_≡_, refl, sym, _∙_}
-use mathlib.Core.Bool.{false, true}
+use mathlib.Core.Path.{_≡_, refl, sym, ap, _∙_}
+use mathlib.Core.Bool.{false, true, cond}
 use mathlib.Core.List.{List, [], _∷_, _++_}
 use native.Mathlib.Omega.{arith}
+use lib.Dec.{leb}
 use lib.IntN.{ℤ, pos, negsuc}
 use lib.ListN.{length, take, replicate}
 use lib.Ieee.{Float, fin}
 use Rattle.constraint.specs.Kind.{kindOf}
-use Rattle.input_data.specs.Checks.{firstOf, dayNumber, lateNumber, memberCount, badPreferences, badCosts}
+use Rattle.input_data.specs.Checks.{firstOf, dayNumber, lateNumber, memberCount, badPreferences, badLevels, badCosts}
 use Rattle.input_data.specs.Day.{noNumbers}
 use Rattle.input_data.specs.Lengths.{fullDay}
 use Rattle.input_data.specs.declared.ConstraintList.{ConstraintList}
@@ -38,6 +39,18 @@ use Rattle.edge_groups.specs.Names.{slotNames, sameChoicesNames, constraintName
 use Rattle.edge_values.specs.Decode.{choiceFor, decoded}
 use Rattle.edge_values.specs.Values.{someOutside, someUsed, someUneven, flow, someUnbalanced, valuesNumber}
 use Rattle.plans.specs.Model.{ModelInput, modelInput, seatsOf, choicesOf, namesOf, networkOf, planOf, checkNumber}
+use Rattle.assignment.specs.Plan.{badPlanFor}
+use Rattle.assignment_solver.specs.Search.{Told, Ask, told, askAt, startOf, middle, searchFrom, searchLevels}
+use Rattle.assignment_solver.specs.Steps.{cached, noPlan, remembers}
+use Rattle.assignment_solver.specs.Calls.{beginNumber, beginAnswer}
+use Rattle.assignment_solver.specs.Run.{asksOf, run, counted, RunIsSearch}
+use Rattle.assignment_solver.specs.Whole.{run-is-search}
+use Rattle.assignment_solver.specs.declared.CachedAssignment.{CachedAssignment}
+use Rattle.assignment_solver.specs.declared.Known.{Known}
+use Rattle.assignment_solver.specs.declared.LimitSolveResult.the-variants.{Feasible, Infeasible}
+use Rattle.assignment_solver.specs.declared.Search.{Search}
+use Rattle.assignment_solver.specs.declared.SearchAnswer.{SearchAnswer}
+use Rattle.schedule_state.specs.Good.{full-within}
 use Rattle.seating.specs.Scores.{score}
 
 abbrev pub noConstraints : ConstraintList
@@ -126,6 +139,50 @@ valued v = pos 0 ∷ pos 1 ∷ pos 1 ∷ pos 1 ∷ pos 1 ∷ pos 0 ∷ pos v ∷
 abbrev pub numberOf : ℕ → ℕ
 numberOf v = checkNumber fullDay (atLimitOne sampleDay) named (valued v) 512
 
+-- five levels, of a day whose max_preference allows them
+abbrev pub levels : List ℕ
+levels = 0 ∷ 1 ∷ 2 ∷ 3 ∷ 4 ∷ []
+
+abbrev pub searchDay : InputData
+searchDay = record {
+  choosers = 2;
+  choices = 3;
+  slots = 2;
+  «max_preference» = 4;
+  mins = sampleDay .mins;
+  maxs = sampleDay .maxs;
+  optional = sampleDay .optional;
+  scheduling = noConstraints;
+  assignment = noConstraints;
+  groups = 0;
+  lengths = sampleDay .lengths;
+  members = sampleDay .members;
+}
+
+abbrev pub nothingCached : CachedAssignment
+nothingCached = cached false false (replicate 32 0) noPlan
+
+-- a search from a bound on
+abbrev pub beginAt : ℕ → SearchAnswer
+beginAt bound = beginAnswer fullDay searchDay atFirst levels bound false nothingCached
+
+-- a solver that finds the sample plan at the last two levels only
+abbrev pub solver : ℕ → Told
+solver m = cond (leb 3 m) (told Feasible (1 ∷ 2 ∷ 0 ∷ 2 ∷ replicate 508 0)) (told Infeasible [])
+
+-- its answers at levels 2 and 3, and at the last
+abbrev pub answers : List Told
+answers = solver 2 ∷ solver 3 ∷ []
+
+abbrev pub lastAnswer : List Told
+lastAnswer = solver 4 ∷ []
+
+abbrev pub asksIn : ℕ → List Told → List Ask
+asksIn bound ts = asksOf fullDay searchDay levels (beginAt bound) ts
+
+abbrev pub runOf : ℕ → List Told → Search
+runOf bound ts = run fullDay searchDay levels (beginAt bound) ts .search
+
 -- ---- the list of rows
 
 abbrev pub rows : List (Type 0)
@@ -147,6 +204,10 @@ rows =
     -- choice 0 moved to slot 1: lists 1 and 2 0; covered 0, 3. Afresh: 1 and 0 2
     ∷ ((listOf afterMove 0 ≡ 1 ∷ []) × (listOf afterMove 1 ≡ 2 ∷ 0 ∷ []) × (take 2 (afterMove .state .covered) ≡ 0 ∷ 3 ∷ [])
     × (listOf (first sampleDay moved buffer) 0 ≡ 1 ∷ []) × (listOf (first sampleDay moved buffer) 1 ≡ 0 ∷ 2 ∷ []))
+    -- five levels, start 0, only the last two feasible: asks at 2, 3; answer 3
+    ∷ ((asksIn 0 answers ≡ askAt 2 2 ∷ askAt 3 3 ∷ []) × (runOf 0 answers .level ≡ 3) × (runOf 0 answers .asking ≡ false))
+    -- no level at or above the bound: one ask, at the last
+    ∷ ((asksIn 5 lastAnswer ≡ askAt 4 4 ∷ []) × (runOf 5 lastAnswer .asking ≡ false))
     -- with equal majors, minor -0.0 is less than +0.0
     ∷ (scoreOrder (score (fin false 1 (pos 0)) (fin true 0 (pos 0))) (score (fin false 1 (pos 0)) (fin false 0 (pos 0))) ≡ Less)
     ∷ []
@@ -169,6 +230,21 @@ out-of-balance : numberOf 0 ≡ 17
 unfolding stateNumber dayNumber lateNumber firstOf badPreferences badCosts memberCount misheld miscountedIn misblocked networkOf supplies seatsOf choicesOf openSeats chooserSeats slotSeats isOpen preferenceOf scheduled namesOf names constraintsNames dependentNames each valuesNumber someOutside someUsed someUneven someUnbalanced flow eqZ foldTo carried visit leftBy blockedBy someBelow
 out-of-balance = refl
 
+search-accepted : beginNumber fullDay searchDay atFirst levels nothingCached ≡ 0
+unfolding beginNumber dayNumber lateNumber firstOf badLevels memberCount someBelow foldTo
+search-accepted = refl
+
+begun : (bound : ℕ) (ts : List Told) → RunIsSearch fullDay searchDay atFirst levels bound false nothingCached (beginAt bound) ts
+begun bound ts = run-is-search fullDay searchDay atFirst levels bound false nothingCached full-within search-accepted ts
+
+two-asks : (asksIn 0 answers ≡ askAt 2 2 ∷ askAt 3 3 ∷ []) × (runOf 0 answers .level ≡ 3) × (runOf 0 answers .asking ≡ false)
+unfolding remembers counted badPlanFor searchLevels searchFrom startOf firstTo middle foldTo
+two-asks = let r = begun 0 answers .is in (r .asks-are, ap (λ (k : Known). k .level) (r .knows-it), r .waits)
+
+one-ask : (asksIn 5 lastAnswer ≡ askAt 4 4 ∷ []) × (runOf 5 lastAnswer .asking ≡ false)
+unfolding remembers counted badPlanFor searchLevels searchFrom startOf firstTo middle foldTo
+one-ask = let r = begun 5 lastAnswer .is in (r .asks-are, r .waits)
+
 pub sample-day : All rows
 unfolding kindOf networkOf supplies seatsOf choicesOf openSeats chooserSeats slotSeats isOpen preferenceOf scheduled numberFrom edgeOf namesOf names constraintsNames constraintNames sameChoicesNames slotNames dependentNames each allThere eqZ planOf decoded choiceFor foldTo firstTo carried visit leftBy blockedBy someBelow
-sample-day = ((refl, refl), ((refl, refl), ((accepted-values, refl), (above-max, (out-of-balance, ((refl, refl), ((refl, refl, refl, refl, refl), (minus-zero-first, tt))))))))
+sample-day = ((refl, refl), ((refl, refl), ((accepted-values, refl), (above-max, (out-of-balance, ((refl, refl), ((refl, refl, refl, refl, refl), (two-asks, (one-ask, (minus-zero-first, tt))))))))))

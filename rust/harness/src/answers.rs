@@ -7,7 +7,8 @@ use crate::panics::caught;
 use crate::state::blocks_of;
 use oracle::Record;
 use port::{
-    BestAnswer, ModelAnswer, NegationAnswer, ScheduleState, Scheduling, Score, StateAnswer,
+    BestAnswer, ModelAnswer, NegationAnswer, ScheduleState, Scheduling, Score, Search,
+    SearchAnswer, StateAnswer,
 };
 use std::cmp::Ordering;
 
@@ -99,4 +100,9 @@ pub fn model(model: &Record) -> ModelAnswer {
 /// A number and zeros.
 pub fn refused_model(number: u32) -> ModelAnswer {
     ModelAnswer { number, ..model(&Record::default()) }
+}
+
+/// A number and zeros.
+pub fn refused_search(number: u32) -> SearchAnswer {
+    SearchAnswer { number, level: 0, index: 0, search: Search::default() }
 }

@@ -3,10 +3,11 @@
 //! anything.
 use crate::constraint::{Constraint, random_assignment, random_scheduling};
 use crate::day::{CHOICES, CHOOSERS, Day, SLOTS};
+use crate::plan::PLAN;
 use crate::random::Random;
 use crate::schedule::Schedule;
 use crate::state::State;
-use port::{ConstraintList, InputData, ScheduleState, Scheduling};
+use port::{CachedAssignment, ConstraintList, InputData, ScheduleState, Scheduling};
 use std::array;
 
 /// The day, sound or damaged. Of what a struct has no room for the front is
@@ -68,6 +69,33 @@ pub fn entries(schedule: &[Option<usize>]) -> [u8; CHOICES] {
     let entry = |slot: usize| u8::try_from(slot).unwrap_or(u8::MAX).saturating_add(1);
     let entries = schedule.iter().map(|slot| slot.map_or(0, entry)).collect::<Vec<_>>();
     filled(&entries, || 0)
+}
+
+/// The schedule that stands in these entries.
+pub fn slots(schedule: &Scheduling) -> Schedule {
+    schedule.entries.iter().map(|entry| usize::from(*entry).checked_sub(1)).collect()
+}
+
+/// The schedule with 0 past the day's choices.
+pub fn kept(day: &Day, schedule: Scheduling) -> Scheduling {
+    Scheduling { entries: filled(&schedule.entries[..day.choices], || 0) }
+}
+
+/// The plan with 0 past the last seat.
+pub fn seats(day: &Day, plan: &[u8]) -> [u8; PLAN] {
+    filled(&plan[..day.choosers * day.slots], || 0)
+}
+
+/// What a search remembers, with anything past the day's choices and seats.
+pub fn remembered(
+    random: &mut Random,
+    day: &Day,
+    mut cached: CachedAssignment,
+) -> CachedAssignment {
+    let mut junk = Junk::new(random);
+    cached.schedule.entries[day.choices..].fill_with(|| junk.word() as u8);
+    cached.plan[day.choosers * day.slots..].fill_with(|| junk.word() as u8);
+    cached
 }
 
 fn constraints(list: &[Constraint], rest: impl FnMut() -> Constraint) -> ConstraintList {

@@ -15,6 +15,8 @@ pub const LEVELS: usize = 256;
 pub const MOST_SEATS: u32 = 1_000;
 pub const MOST_PREFERENCE: u32 = 255;
 pub const MOST_COST: i64 = 1 << 40;
+/// The most asks that a search may have counted.
+pub const MOST_ASKS: u32 = 256;
 /// The most scores that a list may have.
 pub const SCORES: usize = 64;
 

@@ -43,6 +43,20 @@ pub fn random_plan(random: &mut Random, day: &Day, schedule: &Schedule) -> Optio
     Some(with_rest(random, plan))
 }
 
+/// A plan of any choices, scheduled or not: of all of them, of few or of one
+/// alone. None where there are seats and no choice.
+pub fn wild_plan(random: &mut Random, day: &Day) -> Option<Plan> {
+    let seats = day.choosers * day.slots;
+    if seats > 0 && day.choices == 0 {
+        return None;
+    }
+    let all = (0..day.choices as u8).collect::<Vec<_>>();
+    let few = random.pick(&[1, 2, 3, all.len()]);
+    let from = (0..few).filter_map(|_| random.pick_some(&all)).collect::<Vec<_>>();
+    let plan = (0..seats).map(|_| random.pick(&from)).collect();
+    Some(with_rest(random, plan))
+}
+
 /// A plan with a few seats changed, or with two seats of one chooser exchanged.
 pub fn changed_plan(random: &mut Random, day: &Day, schedule: &Schedule, old: &Plan) -> Plan {
     let mut plan = old.clone();

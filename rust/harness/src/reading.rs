@@ -1,15 +1,18 @@
 //! A second reading of document 01's checks, over plain data: the first number
 //! that applies. It was written from the paper and shares nothing with the
-//! port, since the Rust refuses nothing that could be compared.
+//! port but the form of a search, since the Rust refuses nothing that could be
+//! compared.
+use crate::boundary::slots;
 use crate::constraint::{Constraint, OPERATORS, extra, kind, target};
 use crate::day::{
-    CHOICES, CHOOSERS, CONSTRAINTS, Day, GROUPS, LEVELS, MEMBERS, MOST_COST, MOST_PREFERENCE,
-    MOST_SEATS, SCORES, SLOTS,
+    CHOICES, CHOOSERS, CONSTRAINTS, Day, GROUPS, LEVELS, MEMBERS, MOST_ASKS, MOST_COST,
+    MOST_PREFERENCE, MOST_SEATS, SCORES, SLOTS,
 };
 use crate::plan::PLAN;
 use crate::schedule::Schedule;
 use crate::state::{LISTS, State};
 use oracle::Record;
+use port::{CachedAssignment, Search};
 
 /// Buffers that need only be long enough.
 #[derive(Debug, Clone, Copy, PartialEq, Eq)]
@@ -46,6 +49,16 @@ pub enum Asked {
     Slot(usize),
 }
 
+impl Asked {
+    pub fn is_outside(self, day: &Day) -> bool {
+        match self {
+            Self::Chooser(chooser) => chooser >= day.choosers,
+            Self::Choice(choice) => choice >= day.choices,
+            Self::Slot(slot) => slot >= day.slots,
+        }
+    }
+}
+
 /// A list of scores: how many it is said to have, and its floats.
 #[derive(Debug, Clone, Copy)]
 pub struct Scores {
@@ -68,12 +81,15 @@ pub struct Handed<'a> {
     pub schedule: Option<&'a Schedule>,
     pub state: Option<&'a State>,
     pub plan: Option<&'a [u8]>,
+    /// A search that is told a result, and what a search remembers.
+    pub search: Option<&'a Search>,
+    pub cached: Option<&'a CachedAssignment>,
 }
 
 type Check = fn(&Handed, &Day) -> bool;
 
 /// The checks in their order. Each holds for itself, whatever the others say.
-const CHECKS: [(u32, Check); 13] = [
+const CHECKS: [(u32, Check); 14] = [
     (1, too_many),
     (2, wrong_length),
     (3, wrong_seats),
@@ -87,6 +103,7 @@ const CHECKS: [(u32, Check); 13] = [
     (11, wrong_slot),
     (12, wrong_state),
     (13, wrong_plan),
+    (18, wrong_search),
 ];
 
 /// The first number that applies, or 0.
@@ -157,13 +174,8 @@ fn wrong_kind(_: &Handed, day: &Day) -> bool {
 
 fn wrong_operand(handed: &Handed, day: &Day) -> bool {
     let mut constraints = day.scheduling.iter().chain(&day.assignment);
-    let outside = |asked: &Asked| match *asked {
-        Asked::Chooser(chooser) => chooser >= day.choosers,
-        Asked::Choice(choice) => choice >= day.choices,
-        Asked::Slot(slot) => slot >= day.slots,
-    };
     constraints.any(|constraint| has_wrong_operand(constraint, day))
-        || handed.asked.iter().any(outside)
+        || handed.asked.iter().any(|asked| asked.is_outside(day))
 }
 
 fn has_wrong_operand(constraint: &Constraint, day: &Day) -> bool {
@@ -202,10 +214,14 @@ fn wrong_groups(_: &Handed, day: &Day) -> bool {
 }
 
 fn wrong_slot(handed: &Handed, day: &Day) -> bool {
-    let own = handed.state.map(|state| &state.schedule);
-    let mut entries =
-        handed.schedule.into_iter().chain(own).flat_map(|s| s.iter().take(day.choices));
-    entries.any(|slot| slot.is_some_and(|slot| slot >= day.slots))
+    let is_wrong = |schedule: &Schedule| {
+        schedule.iter().take(day.choices).flatten().any(|&slot| slot >= day.slots)
+    };
+    let remembered = handed.cached.filter(|cached| cached.there);
+    handed.schedule.is_some_and(is_wrong)
+        || handed.state.is_some_and(|state| is_wrong(&state.schedule))
+        || handed.search.is_some_and(|search| is_wrong(&slots(&search.schedule)))
+        || remembered.is_some_and(|cached| is_wrong(&slots(&cached.schedule)))
 }
 
 fn wrong_state(handed: &Handed, day: &Day) -> bool {
@@ -258,14 +274,31 @@ pub fn is_blocked(day: &Day, schedule: &Schedule, chooser: usize, choice: usize)
     })
 }
 
-/// A plan lent without a schedule is only tested for numbers that are no choice.
 fn wrong_plan(handed: &Handed, day: &Day) -> bool {
+    let found = handed.search.filter(|search| search.found);
+    let remembered = handed.cached.filter(|cached| cached.there);
+    let is_wrong = |plan: &[u8], schedule| has_wrong_seat(day, plan, Some(&slots(schedule)));
+    handed.plan.is_some_and(|plan| has_wrong_seat(day, plan, handed.schedule))
+        || found.is_some_and(|search| is_wrong(&search.plan, &search.schedule))
+        || remembered.is_some_and(|cached| is_wrong(&cached.plan, &cached.schedule))
+}
+
+/// A plan lent without a schedule is only tested for numbers that are no choice.
+fn has_wrong_seat(day: &Day, plan: &[u8], schedule: Option<&Schedule>) -> bool {
     let seats = day.choosers.saturating_mul(day.slots);
-    let mut entries =
-        handed.plan.unwrap_or(&[]).iter().take(seats).map(|&entry| usize::from(entry));
+    let mut entries = plan.iter().take(seats).map(|&entry| usize::from(entry));
     entries.any(|choice| {
         let has_no_slot = |schedule: &Schedule| schedule.get(choice).copied().flatten().is_none();
-        choice >= day.choices || handed.schedule.is_some_and(has_no_slot)
+        choice >= day.choices || schedule.is_some_and(has_no_slot)
+    })
+}
+
+fn wrong_search(handed: &Handed, _: &Day) -> bool {
+    let levels = handed.levels.unwrap_or(&[]).len();
+    handed.search.is_some_and(|search| {
+        let Search { start, low, high, .. } = *search;
+        let is_within = start <= low && low <= high && high < levels;
+        !search.asking || search.asks > MOST_ASKS || !search.greedy && !is_within
     })
 }
 

@@ -44,6 +44,16 @@ impl State {
         Self { schedule, covered, blocks, lists }
     }
 
+    /// A state where nothing is scheduled.
+    pub fn none() -> Self {
+        Self {
+            schedule: vec![None; CHOICES],
+            covered: vec![0; SLOTS],
+            blocks: vec![false; CHOOSERS * CHOICES],
+            lists: vec![0; LISTS],
+        }
+    }
+
     /// The used front of a slot's list.
     pub fn front(&self, day: &Day, slot: usize) -> &[u8] {
         let own = self.schedule[..day.choices].iter().filter(|&&own| own == Some(slot));

@@ -1,6 +1,6 @@
 //! Open doors to the functions that the originals keep to their crate.
 use crate::prelude::*;
-use crate::{Assignment, Plan, Problem, Schedule, Scheduling, Score, Scoring, Solution};
+use crate::{Assignment, InputData, Plan, Problem, Schedule, Scheduling, Score, Scoring, Solution};
 use core::cmp::Ordering;
 
 fn scheduling(problem: &Problem, schedule: &Schedule) -> Scheduling {
@@ -62,17 +62,34 @@ pub fn is_finite((major, minor): (f32, f32)) -> bool {
     Score { major, minor }.is_finite()
 }
 
-/// `Assignment::choosers_ordered`.
-pub fn choosers_of(problem: &Problem, plan: &Plan, choice: usize) -> Vec<usize> {
-    assignment(problem, plan).choosers_ordered(problem.input_data(), choice)
+/// A plan as the originals keep it.
+pub struct Seated<'a> {
+    input_data: &'a InputData,
+    assignment: Assignment,
 }
 
-/// `Assignment::choices_ordered`.
-pub fn choices_of(problem: &Problem, plan: &Plan, chooser: usize) -> Vec<usize> {
-    assignment(problem, plan).choices_ordered(problem.input_data(), chooser)
-}
+impl<'a> Seated<'a> {
+    pub fn new(problem: &'a Problem, plan: &Plan) -> Self {
+        Self { input_data: problem.input_data(), assignment: assignment(problem, plan) }
+    }
 
-/// `Assignment::is_in_choice`.
-pub fn is_in_choice(problem: &Problem, plan: &Plan, chooser: usize, choice: usize) -> bool {
-    assignment(problem, plan).is_in_choice(problem.input_data(), chooser, choice)
+    /// `Assignment::choosers_ordered`.
+    pub fn choosers_ordered(&self, choice: usize) -> Vec<usize> {
+        self.assignment.choosers_ordered(self.input_data, choice)
+    }
+
+    /// `Assignment::choices_ordered`.
+    pub fn choices_ordered(&self, chooser: usize) -> Vec<usize> {
+        self.assignment.choices_ordered(self.input_data, chooser)
+    }
+
+    /// `Assignment::is_in_choice`.
+    pub fn is_in_choice(&self, chooser: usize, choice: usize) -> bool {
+        self.assignment.is_in_choice(self.input_data, chooser, choice)
+    }
+
+    /// `Assignment::choice_of`.
+    pub fn choice_of(&self, chooser: usize, slot: usize) -> usize {
+        self.assignment.choice_of(chooser, slot)
+    }
 }

@@ -71,7 +71,7 @@ pub struct InputData {
 
 /// An entry is 0 where the choice has no slot, and s + 1 where it is in slot s.
 #[repr(C)]
-#[derive(Debug, Clone, Copy, PartialEq, Eq)]
+#[derive(Debug, Clone, Copy, PartialEq, Eq, Default)]
 pub struct Scheduling {
     pub entries: [u8; 32],
 }
@@ -110,6 +110,66 @@ pub struct ModelAnswer {
     pub entries: usize,
     pub groups: usize,
     pub blocked: usize,
+}
+
+/// How many entries a roster has.
+#[repr(C)]
+#[derive(Debug, Clone, Copy, PartialEq, Eq)]
+pub struct RosterAnswer {
+    pub number: u32,
+    pub length: usize,
+}
+
+#[repr(C)]
+#[derive(Debug, Clone, Copy, PartialEq, Eq)]
+pub struct InChoiceAnswer {
+    pub number: u32,
+    pub found: bool,
+}
+
+#[repr(C)]
+#[derive(Debug, Clone, Copy, PartialEq, Eq)]
+pub struct ChoiceAnswer {
+    pub number: u32,
+    pub choice: u32,
+}
+
+/// A plan that a search remembers. Zeros are no plan.
+#[repr(C)]
+#[derive(Clone, Copy, PartialEq, Eq)]
+pub struct CachedAssignment {
+    pub there: bool,
+    pub greedy: bool,
+    pub schedule: Scheduling,
+    pub plan: [u8; 512],
+}
+
+/// A preference search, as it is handed back after each ask.
+#[repr(C)]
+#[derive(Clone, Copy, PartialEq, Eq)]
+pub struct Search {
+    pub asking: bool,
+    pub greedy: bool,
+    pub found: bool,
+    pub optimal: bool,
+    pub asks: u32,
+    pub level: u32,
+    pub start: usize,
+    pub low: usize,
+    pub high: usize,
+    pub schedule: Scheduling,
+    pub plan: [u8; 512],
+    pub cached: CachedAssignment,
+}
+
+/// What a search asks for.
+#[repr(C)]
+#[derive(Debug, Clone, Copy, PartialEq, Eq)]
+pub struct SearchAnswer {
+    pub number: u32,
+    pub level: u32,
+    pub index: usize,
+    pub search: Search,
 }
 
 unsafe extern "C" {
@@ -191,6 +251,54 @@ unsafe extern "C" {
         plan: *mut u8,
         plan_length: usize,
     ) -> ModelAnswer;
+    pub fn cendravoka_choosers_ordered(
+        day: InputData,
+        plan: *const u8,
+        plan_length: usize,
+        choice: usize,
+        roster: *mut u8,
+        roster_length: usize,
+    ) -> RosterAnswer;
+    pub fn cendravoka_choices_ordered(
+        day: InputData,
+        plan: *const u8,
+        plan_length: usize,
+        chooser: usize,
+        roster: *mut u8,
+        roster_length: usize,
+    ) -> RosterAnswer;
+    pub fn cendravoka_is_in_choice(
+        day: InputData,
+        plan: *const u8,
+        plan_length: usize,
+        chooser: usize,
+        choice: usize,
+    ) -> InChoiceAnswer;
+    pub fn cendravoka_choice_of(
+        day: InputData,
+        plan: *const u8,
+        plan_length: usize,
+        chooser: usize,
+        slot: usize,
+    ) -> ChoiceAnswer;
+    pub fn cendravoka_begin(
+        day: InputData,
+        schedule: Scheduling,
+        levels: *const u32,
+        levels_length: usize,
+        bound: u32,
+        greedy: bool,
+        cached: CachedAssignment,
+    ) -> SearchAnswer;
+    pub fn cendravoka_tell(
+        day: InputData,
+        search: Search,
+        levels: *const u32,
+        levels_length: usize,
+        result: u32,
+        plan: *const u8,
+        plan_length: usize,
+    ) -> SearchAnswer;
     pub safe fn cendravoka_negation(
         kind: u32,
         left: u32,

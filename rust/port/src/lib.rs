@@ -8,8 +8,9 @@ mod ffi;
 pub mod guarded;
 
 pub use ffi::{
-    BestAnswer, Constraint, ConstraintList, InputData, ModelAnswer, NegationAnswer, ScheduleState,
-    Scheduling, Score, SlotListAnswer, StateAnswer,
+    BestAnswer, CachedAssignment, ChoiceAnswer, Constraint, ConstraintList, InChoiceAnswer,
+    InputData, ModelAnswer, NegationAnswer, RosterAnswer, ScheduleState, Scheduling, Score, Search,
+    SearchAnswer, SlotListAnswer, StateAnswer,
 };
 use std::fmt;
 
@@ -30,6 +31,70 @@ impl fmt::Debug for ScheduleState {
             .field("covered", &self.covered)
             .field("blocks", &pairs)
             .finish()
+    }
+}
+
+impl fmt::Debug for CachedAssignment {
+    /// A plan shows up to its last byte that is not 0.
+    fn fmt(&self, formatter: &mut fmt::Formatter) -> fmt::Result {
+        formatter
+            .debug_struct("CachedAssignment")
+            .field("there", &self.there)
+            .field("greedy", &self.greedy)
+            .field("schedule", &self.schedule.entries)
+            .field("plan", &without_zeros(&self.plan))
+            .finish()
+    }
+}
+
+impl fmt::Debug for Search {
+    /// A plan shows up to its last byte that is not 0.
+    fn fmt(&self, formatter: &mut fmt::Formatter) -> fmt::Result {
+        formatter
+            .debug_struct("Search")
+            .field("asking", &self.asking)
+            .field("greedy", &self.greedy)
+            .field("found", &self.found)
+            .field("optimal", &self.optimal)
+            .field("asks", &self.asks)
+            .field("level", &self.level)
+            .field("start, low, high", &(self.start, self.low, self.high))
+            .field("schedule", &self.schedule.entries)
+            .field("plan", &without_zeros(&self.plan))
+            .field("cached", &self.cached)
+            .finish()
+    }
+}
+
+fn without_zeros(plan: &[u8]) -> &[u8] {
+    let used = plan.iter().rposition(|&byte| byte != 0).map_or(0, |last| last + 1);
+    &plan[..used]
+}
+
+impl Default for CachedAssignment {
+    /// Zeros: no plan.
+    fn default() -> Self {
+        Self { there: false, greedy: false, schedule: Scheduling::default(), plan: [0; 512] }
+    }
+}
+
+impl Default for Search {
+    /// Zeros: a search that has ended with nothing.
+    fn default() -> Self {
+        Self {
+            asking: false,
+            greedy: false,
+            found: false,
+            optimal: false,
+            asks: 0,
+            level: 0,
+            start: 0,
+            low: 0,
+            high: 0,
+            schedule: Scheduling::default(),
+            plan: [0; 512],
+            cached: CachedAssignment::default(),
+        }
     }
 }
 
@@ -150,6 +215,79 @@ pub fn check_values(
         )
     };
     answer
+}
+
+/// `Assignment::choosers_ordered`: the choosers of a choice, into `roster`.
+#[allow(unsafe_code)]
+pub fn choosers_ordered(
+    day: &InputData,
+    plan: &[u8],
+    choice: usize,
+    roster: &mut [u8],
+) -> RosterAnswer {
+    let (front, length) = (roster.as_mut_ptr(), roster.len());
+    // SAFETY: as in `build`, for each slice; the plan is only read.
+    unsafe {
+        ffi::cendravoka_choosers_ordered(*day, plan.as_ptr(), plan.len(), choice, front, length)
+    }
+}
+
+/// `Assignment::choices_ordered`: the choices of a chooser, into `roster`.
+#[allow(unsafe_code)]
+pub fn choices_ordered(
+    day: &InputData,
+    plan: &[u8],
+    chooser: usize,
+    roster: &mut [u8],
+) -> RosterAnswer {
+    let (front, length) = (roster.as_mut_ptr(), roster.len());
+    // SAFETY: as in `choosers_ordered`.
+    unsafe {
+        ffi::cendravoka_choices_ordered(*day, plan.as_ptr(), plan.len(), chooser, front, length)
+    }
+}
+
+/// `Assignment::is_in_choice`.
+#[allow(unsafe_code)]
+pub fn is_in_choice(day: &InputData, plan: &[u8], chooser: usize, choice: usize) -> InChoiceAnswer {
+    // SAFETY: as in `build`; the entry only reads the slice.
+    unsafe { ffi::cendravoka_is_in_choice(*day, plan.as_ptr(), plan.len(), chooser, choice) }
+}
+
+/// `Assignment::choice_of`.
+#[allow(unsafe_code)]
+pub fn choice_of(day: &InputData, plan: &[u8], chooser: usize, slot: usize) -> ChoiceAnswer {
+    // SAFETY: as in `is_in_choice`.
+    unsafe { ffi::cendravoka_choice_of(*day, plan.as_ptr(), plan.len(), chooser, slot) }
+}
+
+/// `AssignmentSolver::solve_until`, begun: what the search asks for first.
+#[allow(unsafe_code)]
+pub fn begin(
+    day: &InputData,
+    schedule: Scheduling,
+    levels: &[u32],
+    bound: u32,
+    greedy: bool,
+    cached: &CachedAssignment,
+) -> SearchAnswer {
+    let (front, length) = (levels.as_ptr(), levels.len());
+    // SAFETY: as in `is_in_choice`.
+    unsafe { ffi::cendravoka_begin(*day, schedule, front, length, bound, greedy, *cached) }
+}
+
+/// A search is told the answer to its ask: what it asks for next.
+#[allow(unsafe_code)]
+pub fn tell(
+    day: &InputData,
+    search: &Search,
+    levels: &[u32],
+    result: u32,
+    plan: &[u8],
+) -> SearchAnswer {
+    let (front, length) = (levels.as_ptr(), levels.len());
+    // SAFETY: as in `is_in_choice`, for each slice.
+    unsafe { ffi::cendravoka_tell(*day, *search, front, length, result, plan.as_ptr(), plan.len()) }
 }
 
 /// `Constraint::negation`.

@@ -4,9 +4,13 @@ use crate::day::{CHOICES, CHOOSERS, SLOTS};
 use crate::random::Random;
 use crate::state::LISTS;
 
+/// Damage to a schedule.
+pub const SCHEDULES: &[Damage] =
+    &[Damage { name: "a slot that the day has not", number: 11, apply: wrong_slot }];
+
+/// Damage to a state, and to a schedule and a state at once.
 pub const DAMAGES: &[Damage] = &[
     Damage { name: "slot lists too short", number: 2, apply: short_lists },
-    Damage { name: "a slot that the day has not", number: 11, apply: wrong_slot },
     Damage { name: "a slot that the day has not, in the state", number: 11, apply: own_slot },
     Damage { name: "such slots in both schedules", number: 11, apply: both_slots },
     Damage { name: "covered off by one", number: 12, apply: covered },

@@ -3,16 +3,19 @@
 mod days;
 mod lent;
 mod plans;
+mod searches;
 mod tables;
 pub mod values;
 
 use crate::bridge;
-use crate::day::Day;
+use crate::day::{CHOICES, Day};
 use crate::plan::{Plan, random_plan};
 use crate::random::Random;
 use crate::reading::{Asked, Buffer, Handed};
 use crate::schedule::{Schedule, changed_schedule, random_chain};
+use crate::search::{FEASIBLE, INFEASIBLE, random_search};
 use crate::state::State;
+use port::Search;
 
 /// All that a call may be handed.
 #[derive(Debug, Clone)]
@@ -24,9 +27,27 @@ pub struct Input {
     pub schedule: Schedule,
     pub state: State,
     pub plan: Plan,
+    /// A search that asks, with what it remembers.
+    pub search: Search,
+    /// What the search is told; the plan is the one told with it.
+    pub result: u32,
 }
 
 impl Input {
+    /// The day, and nothing beside it.
+    pub fn bare(day: Day) -> Self {
+        Self {
+            day,
+            buffers: Vec::new(),
+            asked: Vec::new(),
+            schedule: vec![None; CHOICES],
+            state: State::none(),
+            plan: Vec::new(),
+            search: Search::default(),
+            result: FEASIBLE,
+        }
+    }
+
     /// Sound input around this day, with a plan for its schedule; nothing where
     /// there are seats and no choice to sit in.
     pub fn random(random: &mut Random, day: Day) -> Option<Self> {
@@ -40,7 +61,19 @@ impl Input {
         let plan = random_plan(random, &day, &schedule)?;
         let buffers = BUFFERS.map(|buffer| (buffer, buffer.named_length() + random.below(3)));
         let asked = random_asked(random, &day);
-        Some(Self { day, buffers: buffers.to_vec(), asked, schedule, state, plan })
+        let buffers = buffers.to_vec();
+        let input = Self { buffers, asked, schedule, state, plan, ..Self::bare(day) };
+        Some(input.searching(random))
+    }
+
+    /// The input with a search of its schedule, whose best plan is that of the
+    /// input, and with something to be told. On a day without levels only a
+    /// greedy search asks, so it is made one.
+    pub fn searching(mut self, random: &mut Random) -> Self {
+        self.day.greedy |= self.day.levels.is_empty();
+        self.search = random_search(random, &self.day, &self.schedule, &self.plan);
+        self.result = random.pick(&[FEASIBLE, FEASIBLE, INFEASIBLE, 2, 3, u32::MAX]);
+        self
     }
 
     pub fn handed(&self) -> Handed<'_> {
@@ -56,6 +89,8 @@ impl Input {
             schedule: Some(&self.schedule),
             state: Some(&self.state),
             plan: Some(&self.plan),
+            search: Some(&self.search),
+            cached: Some(&self.search.cached),
         }
     }
 }
@@ -72,7 +107,8 @@ const BUFFERS: [Buffer; 9] = [
     Buffer::Roster,
 ];
 
-fn random_asked(random: &mut Random, day: &Day) -> Vec<Asked> {
+/// One of each that there is.
+pub fn random_asked(random: &mut Random, day: &Day) -> Vec<Asked> {
     let mut asked = Vec::new();
     if day.choosers > 0 {
         asked.push(Asked::Chooser(random.below(day.choosers)));
@@ -97,21 +133,38 @@ pub struct Damage {
 
 /// Every kind of damage, by number.
 pub fn all() -> Vec<&'static Damage> {
-    by_number(&[days::DAMAGES, tables::DAMAGES, lent::DAMAGES, plans::DAMAGES])
+    by_number(&[
+        days::DAMAGES,
+        tables::DAMAGES,
+        tables::LEVELS,
+        lent::SCHEDULES,
+        lent::DAMAGES,
+        plans::DAMAGES,
+        searches::DAMAGES,
+    ])
 }
 
 /// Damage to a day, a schedule or a state, by number. It does not look at the
 /// tables, buffers and plan beside them.
 pub fn of_states() -> Vec<&'static Damage> {
-    by_number(&[days::DAMAGES, lent::DAMAGES])
+    by_number(&[days::DAMAGES, lent::SCHEDULES, lent::DAMAGES])
 }
 
 /// Damage to what the two calls on models are handed, by number. They have no
 /// use for preference levels.
 pub fn of_models() -> Vec<&'static Damage> {
-    let mut damages = by_number(&[days::DAMAGES, tables::DAMAGES, lent::DAMAGES]);
-    damages.retain(|damage| damage.number != 5);
-    damages
+    by_number(&[days::DAMAGES, tables::DAMAGES, lent::SCHEDULES, lent::DAMAGES])
+}
+
+/// Damage to what the calls on plans are handed, by number. Tables that they
+/// have no use for make no difference.
+pub fn of_rosters() -> Vec<&'static Damage> {
+    by_number(&[days::DAMAGES, tables::DAMAGES, plans::DAMAGES])
+}
+
+/// Damage to what the calls of a search are handed, by number.
+pub fn of_searches() -> Vec<&'static Damage> {
+    by_number(&[days::DAMAGES, tables::LEVELS, lent::SCHEDULES, plans::DAMAGES, searches::DAMAGES])
 }
 
 fn by_number(lists: &[&'static [Damage]]) -> Vec<&'static Damage> {

@@ -1,33 +1,55 @@
 //! Damage to plans.
 use super::lent::some_index;
 use super::{Damage, Input};
-use crate::day::CHOICES;
+use crate::day::{CHOICES, Day};
+use crate::plan::PLAN;
 use crate::random::Random;
+use crate::schedule::Schedule;
 
 pub const DAMAGES: &[Damage] = &[
+    Damage { name: "a plan of another length", number: 2, apply: length },
     Damage { name: "a seat in no choice", number: 13, apply: wrong_seat },
     Damage { name: "a seat in an unscheduled choice", number: 13, apply: unscheduled_seat },
     Damage { name: "anything past the last seat", number: 0, apply: past_seats },
 ];
 
-fn wrong_seat(random: &mut Random, input: &mut Input) -> Option<()> {
-    let seat = some_seat(random, input)?;
-    let choices = u8::try_from(input.day.choices).ok()?;
-    input.plan[seat] = random.pick(&[choices, choices.saturating_add(1), 255]);
+fn length(random: &mut Random, input: &mut Input) -> Option<()> {
+    input.plan.resize(random.pick(&[PLAN - 1, PLAN + 1, 0]), 0);
     Some(())
+}
+
+fn wrong_seat(random: &mut Random, input: &mut Input) -> Option<()> {
+    put_wrong(random, &input.day, &mut input.plan)
 }
 
 fn unscheduled_seat(random: &mut Random, input: &mut Input) -> Option<()> {
-    let seat = some_seat(random, input)?;
-    let choices = 0..input.day.choices.min(CHOICES);
-    let left_out = choices.filter(|&choice| input.schedule[choice].is_none()).collect::<Vec<_>>();
-    input.plan[seat] = random.pick_some(&left_out)? as u8;
+    put_unscheduled(random, &input.day, &input.schedule, &mut input.plan)
+}
+
+/// A seat of the plan gets a number that is no choice.
+pub(super) fn put_wrong(random: &mut Random, day: &Day, plan: &mut [u8]) -> Option<()> {
+    let seat = some_seat(random, day, plan)?;
+    let choices = u8::try_from(day.choices).ok()?;
+    plan[seat] = random.pick(&[choices, choices.saturating_add(1), 255]);
     Some(())
 }
 
-fn some_seat(random: &mut Random, input: &Input) -> Option<usize> {
-    let seats = input.day.choosers.saturating_mul(input.day.slots);
-    some_index(random, seats.min(input.plan.len()))
+/// A seat of the plan gets a choice without a slot.
+pub(super) fn put_unscheduled(
+    random: &mut Random,
+    day: &Day,
+    schedule: &Schedule,
+    plan: &mut [u8],
+) -> Option<()> {
+    let seat = some_seat(random, day, plan)?;
+    let choices = 0..day.choices.min(CHOICES);
+    let left_out = choices.filter(|&choice| schedule[choice].is_none()).collect::<Vec<_>>();
+    plan[seat] = random.pick_some(&left_out)? as u8;
+    Some(())
+}
+
+fn some_seat(random: &mut Random, day: &Day, plan: &[u8]) -> Option<usize> {
+    some_index(random, day.choosers.saturating_mul(day.slots).min(plan.len()))
 }
 
 fn past_seats(random: &mut Random, input: &mut Input) -> Option<()> {

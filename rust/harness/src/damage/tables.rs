@@ -1,17 +1,21 @@
 //! Damage to the tables and buffers beside a day.
 use super::{Damage, Input};
-use crate::day::{LEVELS, MOST_COST};
+use crate::day::{self, MOST_COST};
 use crate::random::Random;
 
 pub const DAMAGES: &[Damage] = &[
     Damage { name: "a table of another length", number: 2, apply: table_length },
     Damage { name: "a buffer too short", number: 2, apply: short_buffer },
     Damage { name: "a preference above max_preference", number: 4, apply: preference },
+    Damage { name: "a cost out of range", number: 6, apply: cost },
+];
+
+/// Damage to the preference levels.
+pub const LEVELS: &[Damage] = &[
     Damage { name: "too many levels", number: 5, apply: many_levels },
     Damage { name: "equal levels", number: 5, apply: equal_levels },
     Damage { name: "descending levels", number: 5, apply: descending_levels },
     Damage { name: "a level above max_preference", number: 5, apply: high_level },
-    Damage { name: "a cost out of range", number: 6, apply: cost },
 ];
 
 fn table_length(random: &mut Random, input: &mut Input) -> Option<()> {
@@ -50,7 +54,7 @@ fn preference(random: &mut Random, input: &mut Input) -> Option<()> {
 }
 
 fn many_levels(_: &mut Random, input: &mut Input) -> Option<()> {
-    input.day.levels = (0..=LEVELS as u32).collect();
+    input.day.levels = (0..=day::LEVELS as u32).collect();
     Some(())
 }
 
@@ -70,7 +74,7 @@ fn descending_levels(random: &mut Random, input: &mut Input) -> Option<()> {
 
 fn high_level(random: &mut Random, input: &mut Input) -> Option<()> {
     let above = input.day.max_preference.checked_add(1)?;
-    input.day.levels.truncate(LEVELS - 1);
+    input.day.levels.truncate(day::LEVELS - 1);
     input.day.levels.push(random.pick(&[above, u32::MAX]));
     Some(())
 }

@@ -7,12 +7,15 @@ mod constants;
 mod generator;
 mod header;
 mod is_finite;
+mod kept;
 pub mod model;
 pub mod negation;
 mod reading;
 mod records;
 mod refused;
+mod roster;
 mod sample;
+mod search;
 mod state;
 
 pub type Suite = (&'static str, fn(&mut Run));
@@ -33,4 +36,8 @@ pub const SUITES: &[Suite] = &[
     ("model", model::run),
     ("values", model::values::run),
     ("model_refusals", model::refusals::run),
+    ("rosters", roster::run),
+    ("roster_refusals", roster::refusals::run),
+    ("search", search::run),
+    ("search_refusals", search::refusals::run),
 ];

@@ -1,9 +1,10 @@
 //! The preference search, `solve_until`, answered by the exact solver or by a
 //! script.
+use super::LimitSolveResult;
 use super::state::Solver;
 use crate::prelude::*;
-use crate::stand_in::clock::DEADLINE;
-use crate::{Plan, Schedule, status};
+use crate::stand_in::clock::{DEADLINE, PASSED};
+use crate::{Plan, Schedule, Scheduling, status};
 use good_lp::Told;
 use good_lp::control::{self, Mode};
 
@@ -35,6 +36,23 @@ impl Solver<'_> {
         control::set(Mode::Exact);
         let run = self.search_as_set(schedule);
         (!control::take_gave_up()).then_some(run)
+    }
+
+    /// The plan that a scripted Feasible decodes to at a limit, with the state
+    /// that the last call left.
+    pub fn plan_told(&mut self, limit: u32) -> Plan {
+        let state = self.carried();
+        control::set(Mode::Script([Told::Feasible].into()));
+        match self.0.solve_with_limit(&state, limit, None) {
+            LimitSolveResult::Feasible(plan) => self.rows(&plan),
+            _ => unreachable!("the script says so"),
+        }
+    }
+
+    /// `solve_until` when its time is over: every ask is answered by Incomplete,
+    /// before there is a model.
+    pub fn search_late(&mut self, scheduling: &Scheduling) -> bool {
+        self.0.solve_until(scheduling, Some(PASSED)).is_some()
     }
 
     fn search_as_set(&mut self, schedule: &Schedule) -> SearchRun {

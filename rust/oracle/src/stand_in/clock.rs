@@ -15,6 +15,9 @@ pub struct SystemTime(Duration);
 /// The deadline that scripted searches are given.
 pub const DEADLINE: SystemTime = SystemTime(Duration::from_secs(1_000));
 
+/// A deadline that has passed, whenever the clock is read.
+pub const PASSED: SystemTime = SystemTime(Duration::ZERO);
+
 /// After so many readings from now one is late.
 pub fn late_after(readings: usize) {
     BEFORE_LATE.set(Some(readings));

@@ -2,6 +2,7 @@
 #![forbid(unsafe_code)]
 
 mod models;
+mod plans;
 mod states;
 
 use harness::answers::{self, Pair};
@@ -49,6 +50,8 @@ const ROWS: &[(&str, Row)] = &[
     ("model, 32 + 32 constraints", models::model::<32>),
     ("check_values", models::check_values::<0>),
     ("check_values, 32 + 32 constraints", models::check_values::<32>),
+    ("choosers_ordered", plans::choosers_ordered),
+    ("search over 256 levels, nine asks", plans::search),
 ];
 
 fn main() {
@@ -61,7 +64,10 @@ fn main() {
         "exported entries. Models are {} in a round. Beside check_values stands",
         models::INPUTS
     );
-    println!("the Rust's model, since the Rust does not test the values of its solver.");
+    println!(
+        "the Rust's model, since the Rust does not test the values of its solver. A search is"
+    );
+    println!("from begin to end, told Incomplete at each ask, so that the Rust makes no model.");
     println!("{:<36}{:>10}{:>10}{:>8}", "call", "port ns", "Rust ns", "ratio");
     for (call, timers) in ROWS {
         let mut random = Random::of_case(1, call, 0);

@@ -19,19 +19,29 @@ pub struct Scene {
     pub rust: Solver<'static>,
 }
 
+/// A day of as many choosers, choices and slots as there can be.
+pub fn full_day() -> Day {
+    let mut day = Day::bare(CHOOSERS, CHOICES, SLOTS);
+    day.mins.fill(2);
+    day.max_preference = 5;
+    day.preferences = (0..CHOOSERS * CHOICES).map(|place| (place * 7 % 6) as u32).collect();
+    day.fill_tables();
+    day
+}
+
 impl Scene {
     pub fn new(random: &mut Random, constraints: usize) -> Self {
-        let mut day = Day::bare(CHOOSERS, CHOICES, SLOTS);
-        day.mins.fill(2);
-        day.max_preference = 5;
-        day.preferences = (0..CHOOSERS * CHOICES).map(|place| (place * 7 % 6) as u32).collect();
-        day.fill_tables();
+        let mut day = full_day();
         for _ in 0..constraints {
             let (scheduling, assignment) =
                 (random_scheduling(random, &day), random_assignment(random, &day));
             day.scheduling.extend(scheduling);
             day.assignment.extend(assignment);
         }
+        Self::of(random, day)
+    }
+
+    pub fn of(random: &mut Random, day: Day) -> Self {
         let port = boundary::day(random, &day);
         // A solver borrows its problem, and timers keep it to the end.
         let problem = Box::leak(Box::new(bridge::problem(&day)));

@@ -140,10 +140,11 @@ fn rosters(random: &mut Random, scene: &Scene, plan: &Plan) -> Outcome {
     let mut row = plan[chooser].clone();
     row.sort_unstable();
     let own = (members.contains(&chooser), members, row);
+    let seated = calls::Seated::new(scene.problem, &plan);
     let rust = (
-        calls::is_in_choice(scene.problem, &plan, chooser, choice),
-        calls::choosers_of(scene.problem, &plan, choice),
-        calls::choices_of(scene.problem, &plan, chooser),
+        seated.is_in_choice(chooser, choice),
+        seated.choosers_ordered(choice),
+        seated.choices_ordered(chooser),
     );
     wanted(own, rust, || format!("plan {plan:?} chooser {chooser} choice {choice}"))
 }

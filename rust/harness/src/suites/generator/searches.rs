@@ -5,7 +5,7 @@ use crate::day::{Day, Size};
 use crate::features::Features;
 use crate::random::Random;
 use crate::run::{Outcome, wanted};
-use crate::search::{greedy, search};
+use crate::search::search;
 use oracle::{SearchRun, Told};
 
 pub fn try_searches(random: &mut Random, features: &mut Features, scene: &mut Scene) -> Outcome {
@@ -45,18 +45,12 @@ fn scripted(random: &mut Random, features: &mut Features, scene: &Scene) -> Outc
     }
     let script = (0..=day.levels.len()).map(|_| random.pick(&told)).collect::<Vec<_>>();
     let run = bridge::problem(&day).solver().search_told(scene.slots(), &script);
-    let own = if day.greedy {
-        greedy(day.max_preference, script[0])
-    } else {
-        search(&day.levels, day.bound, &script)
-    };
+    let (asks, own) = search(&day, &script);
     look(features, &run);
     let kept = run.plan.clone().filter(|_| own.optimal);
     let kept = kept.map(|plan| (scene.slots().to_vec(), plan));
     let found = (run.asks, run.plan.is_some(), run.remembered);
-    wanted(found, (own.asks, own.found, kept), || {
-        format!("{day:?} {:?} {script:?}", scene.schedule)
-    })
+    wanted(found, (asks, own.found, kept), || format!("{day:?} {:?} {script:?}", scene.schedule))
 }
 
 fn look(features: &mut Features, run: &SearchRun) {

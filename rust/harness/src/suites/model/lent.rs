@@ -2,10 +2,10 @@
 //! must stand in each.
 use crate::random::Random;
 use crate::reading::Buffer;
-use crate::run::{Outcome, wanted};
+use crate::run::Outcome;
+use crate::suites::kept::Kept;
 use oracle::{Edge, Plan, Record};
 use port::ModelBuffers;
-use port::guarded::{Change, Element, Guarded};
 
 /// What check_values is lent beside the tables and the slot lists. The model
 /// takes those before the values.
@@ -132,46 +132,4 @@ impl Lent {
 
 fn places<'a>(edges: impl IntoIterator<Item = &'a usize>) -> Vec<u16> {
     edges.into_iter().map(|&edge| edge as u16).collect()
-}
-
-/// Elements that the failure of a comparison shows.
-const SHOWN: usize = 16;
-
-/// A buffer and what must stand in it.
-struct Kept<T> {
-    buffer: Guarded<T>,
-    wanted: Vec<T>,
-}
-
-impl<T: Element> Kept<T> {
-    fn new(length: usize) -> Self {
-        let buffer = Guarded::patterned(length);
-        let wanted = buffer.now().to_vec();
-        Self { buffer, wanted }
-    }
-
-    fn reset(&mut self) {
-        self.buffer.reset();
-        self.wanted.copy_from_slice(self.buffer.now());
-    }
-
-    /// Behind the front there must stand what stood there.
-    fn expect(&mut self, front: &[T]) {
-        self.wanted[..front.len()].copy_from_slice(front);
-    }
-
-    /// A failure shows what stands around the first difference.
-    fn is_right(&self, name: &str, input: &impl Fn() -> String) -> Outcome {
-        let (now, own) = (self.buffer.now(), &self.wanted[..]);
-        let differs = self.buffer.differs_from(own);
-        let start = match differs {
-            Some(Change::Inside(byte)) => (byte / size_of::<T>()).saturating_sub(SHOWN / 2),
-            _ => 0,
-        };
-        let shown = start..(start + SHOWN).min(own.len());
-        let found = (differs, &now[shown.clone()]);
-        wanted(found, (None, &own[shown.clone()]), || {
-            format!("{name} from place {start} after {}", input())
-        })
-    }
 }

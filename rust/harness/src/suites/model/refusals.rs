@@ -86,12 +86,10 @@ fn input(random: &mut Random, scene: &Scene) -> Input {
     let lengths = random_lengths(random);
     let state = scene.walk.plain_state();
     Input {
-        day: scene.walk.day.clone(),
         buffers: BUFFERS.into_iter().zip(lengths).collect(),
-        asked: Vec::new(),
         schedule: state.schedule.clone(),
         state,
-        plan: Vec::new(),
+        ..Input::bare(scene.walk.day.clone())
     }
 }
 

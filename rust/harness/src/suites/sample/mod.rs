@@ -7,9 +7,11 @@ use crate::boundary;
 use crate::bridge;
 use crate::day::{CHOICES, Day, sample_day};
 use crate::run::{Run, wanted};
+use crate::schedule::Schedule;
 use crate::state::LISTS;
+use crate::suites::search::walk::Walk;
 use oracle::{Ask, Told};
-use port::Scheduling;
+use port::{CachedAssignment, Scheduling};
 
 const SCHEDULE: [Option<usize>; 3] = [Some(0), Some(0), Some(1)];
 /// Choice 0 moved to slot 1.
@@ -95,17 +97,25 @@ fn limits(run: &mut Run) {
 /// Five levels of which the last two are feasible, and a bound above them all.
 fn searches(run: &mut Run) {
     let five = Day { max_preference: 4, levels: vec![0, 1, 2, 3, 4], ..sample_day() };
-    let asks = |day: Day, script: &[Told]| {
-        let problem = bridge::problem(&day);
-        let run = problem.solver().search_told(&SCHEDULE, script);
-        run.asks.into_iter().map(|Ask { limit, .. }| limit).collect::<Vec<_>>()
-    };
-    run.case(|_| {
-        let found = asks(five.clone(), &[Told::Infeasible, Told::Feasible]);
-        wanted(found, vec![2, 3], || "asks of five levels".to_owned())
+    let above = Day { bound: 9, ..five.clone() };
+    one_search(run, &five, &[Told::Infeasible, Told::Feasible], (vec![2, 3], 3));
+    one_search(run, &above, &[Told::Feasible], (vec![4], 4));
+}
+
+/// The levels asked for and the level found, of the Rust and of the port.
+fn one_search(run: &mut Run, day: &Day, script: &[Told], levels: (Vec<u32>, u32)) {
+    let problem = bridge::problem(day);
+    run.case(|random| {
+        let mut walk = Walk::new(day, &problem, CachedAssignment::default());
+        let rust = walk.search(random, &whole(&SCHEDULE), script)?;
+        let asks = rust.asks.into_iter().map(|Ask { limit, .. }| limit).collect();
+        wanted((asks, walk.port.level), levels, || format!("asks of {day:?}"))
     });
-    run.case(|_| {
-        let found = asks(Day { bound: 9, ..five.clone() }, &[Told::Feasible]);
-        wanted(found, vec![4], || "asks with a bound above all levels".to_owned())
-    });
+}
+
+/// The schedule with an entry for each of the choices that a day may have.
+fn whole(slots: &[Option<usize>]) -> Schedule {
+    let mut schedule = slots.to_vec();
+    schedule.resize(CHOICES, None);
+    schedule
 }

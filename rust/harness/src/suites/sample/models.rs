@@ -1,8 +1,8 @@
 //! Models and plans of the sample day, of the Rust and of the port.
-use super::SCHEDULE;
+use super::{SCHEDULE, whole};
 use crate::bridge;
 use crate::constraint::{Constraint, kind, target};
-use crate::day::{CHOICES, Day, sample_day};
+use crate::day::{Day, sample_day};
 use crate::features::Features;
 use crate::random::Random;
 use crate::reading;
@@ -143,7 +143,5 @@ fn scene<'a>(
     day: &'a Day,
     problem: &'a Problem,
 ) -> Result<Scene<'a>, Failure> {
-    let mut schedule = SCHEDULE.to_vec();
-    schedule.resize(CHOICES, None);
-    Scene::built_for(random, day, problem, &schedule)
+    Scene::built_for(random, day, problem, &whole(&SCHEDULE))
 }

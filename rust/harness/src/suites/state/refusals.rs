@@ -62,11 +62,9 @@ fn one_day(random: &mut Random, damages: &[&Damage], features: &mut Features) ->
 fn input(random: &mut Random, walk: &Walk, schedule: &Schedule) -> Input {
     let slots = walk.day.slots;
     Input {
-        day: walk.day.clone(),
-        buffers: Vec::new(),
         asked: (slots > 0).then(|| Asked::Slot(random.below(slots))).into_iter().collect(),
         schedule: schedule.clone(),
         state: walk.plain_state(),
-        plan: Vec::new(),
+        ..Input::bare(walk.day.clone())
     }
 }

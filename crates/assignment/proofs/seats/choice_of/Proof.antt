@@ -1,0 +1,23 @@
+use Rattle.schedule_state.specs.Good.{full-within}
+use borrow.Author.Needs.{needs}
+use Rattle.assignment.proofs.seats.choice_of.Statement.{statement}
+use Rattle.assignment.proofs.seats.choice_of.Tie as tie
+use Rattle.assignment.proofs.seats.choice_of.Reads as reads
+use Rattle.assignment.proofs.seats.choice_of.Lts as lts
+use Rattle.assignment.proofs.seats.choice_within.Reads as choice-within-reads
+use Rattle.schedule_state.proofs.full_day.Reads as full-day-reads
+
+-- src/seats.rt:99:19
+full-day-requires : tie.Need-full-day-requires
+full-day-requires c κs = search needs
+
+-- src/seats.rt:99:5
+choice-within-requires : tie.Need-choice-within-requires
+choice-within-requires c κs = rw (c .full-day .ensures) full-within
+
+-- src/seats.rt:96:1
+returns : tie.Need-returns
+returns c = rw (c .before .full-day .ensures) at (c .choice-within .ensures)
+
+pub choice-of-spec : {M : Type 1} → statement M
+choice-of-spec = tie.close (tie.spec full-day-requires choice-within-requires returns)

@@ -1,0 +1,4 @@
+-- assignment.rs: plans, check 13, rosters.
+pub mod Plan
+pub mod Calls
+pub mod Laws

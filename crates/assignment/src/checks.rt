@@ -1,0 +1,98 @@
+// Check 13, and the number of a call that is handed a plan.
+use input_data::Beside;
+use input_data::InputData;
+use input_data::Limits;
+ghost use mathlib.Core.Path.{_≡_};
+ghost use Prim.Native.Nat.{_≤_};
+ghost use lib.ListN.{length};
+ghost use Rattle.input_data.specs.Lengths.{Within};
+ghost use Rattle.assignment.specs.Plan.{badPlan, badPlanFor, keptSeat, keptPlan};
+ghost use Rattle.assignment.specs.Calls.{planNumber};
+ghost use Rattle.scheduling.specs.Schedule.{entryAt};
+ghost use lib.Dec.{leb, eqb};
+ghost use mathlib.Core.Bool.{_||_};
+
+// 13, without a schedule. No early exit, so that the walk is quick.
+pub fn bad_plan(choices: usize, seats: usize, plan: &[u8]) -> bool
+    requires { ⌜ seats ≤ length (now plan) ⌝ }
+    ensures { λ r. ⌜ r ≡ badPlan choices seats (now (plan .entry)) ⌝ }
+{
+    let mut bad = false;
+    let mut i = 0;
+    while i < seats {
+        bad = bad | (choices <= plan[i] as usize);
+        i += 1;
+    }
+    bad
+}
+
+// Whether an entry is no choice, or one without a slot.
+fn is_unseated(choices: usize, entries: &[u8; 32], choice: u8) -> bool
+    requires { ⌜ choices ≤ 32 ⌝ }
+    ensures { λ r. ⌜ r ≡ (leb choices choice || eqb (entryAt (now (entries .entry)) choice) 0) ⌝ }
+{
+    let k = choice as usize;
+    if k < choices {
+        return entries[k] == 0;
+    }
+    true
+}
+
+// 13, beside a schedule.
+pub fn bad_plan_for(choices: usize, seats: usize, entries: &[u8; 32], plan: &[u8]) -> bool
+    requires { ⌜ (choices ≤ 32) × (seats ≤ length (now plan)) ⌝ }
+    ensures { λ r. ⌜ r ≡ badPlanFor choices seats (now (entries .entry)) (now (plan .entry)) ⌝ }
+{
+    let mut bad = false;
+    let mut i = 0;
+    while i < seats {
+        bad = bad | is_unseated(choices, entries, plan[i]);
+        i += 1;
+    }
+    bad
+}
+
+fn kept_seat(seats: usize, plan: &[u8], i: usize) -> u8
+    requires { ⌜ seats ≤ length (now plan) ⌝ }
+    ensures { λ r. ⌜ r ≡ keptSeat seats (now (plan .entry)) i ⌝ }
+{
+    if i < seats {
+        return plan[i];
+    }
+    0
+}
+
+// The plan as it is handed back: 0 past the last seat.
+pub fn kept_plan(seats: usize, plan: &[u8]) -> [u8; 512]
+    requires { ⌜ seats ≤ length (now plan) ⌝ }
+    ensures { λ r. ⌜ r ≡ keptPlan seats (now (plan .entry)) ⌝ }
+{
+    let mut out = [0u8; 512];
+    let mut i = 0;
+    while i < 512 {
+        out[i] = kept_seat(seats, plan, i);
+        i += 1;
+    }
+    out
+}
+
+// `short`: the roster that the call is lent is too short. Sizes are tested before any product of them
+// is formed.
+pub fn plan_number(limits: Limits, day: InputData, plan: &[u8], short: bool, asked: bool) -> u32
+    requires { ⌜ Within limits ⌝ }
+    ensures { λ r. ⌜ r ≡ planNumber limits day (now (plan .entry)) short asked ⌝ }
+{
+    let beside = Beside {
+        lengths: (plan.len() != limits.choosers * limits.slots) | short,
+        preferences: false,
+        levels: false,
+        costs: false,
+        asked: asked,
+    };
+    let number = input_data::day_number(limits, day, beside, 0);
+    if number != 0 {
+        return number;
+    }
+    let bad = bad_plan(day.choices, day.choosers * day.slots, plan);
+    input_data::first(bad, 13, 0)
+}

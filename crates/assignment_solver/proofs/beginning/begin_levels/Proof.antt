@@ -1,0 +1,55 @@
+use native.Mathlib.Omega.{arith}
+use mathlib.Core.Path.{_∙_}
+use borrow.Author.Tests.{eq-eqb, ne-eqb}
+use Rattle.assignment_solver.specs.Steps.{begunLevels}
+use borrow.Author.Needs.{needs}
+use Rattle.assignment_solver.proofs.beginning.begin_levels.Statement.{statement}
+use Rattle.assignment_solver.proofs.beginning.begin_levels.Tie as tie
+use Rattle.assignment_solver.proofs.beginning.begin_levels.Reads as reads
+use Rattle.assignment_solver.proofs.beginning.begin_levels.Lts as lts
+use Rattle.assignment_solver.proofs.beginning.start_of.Reads as start-of-reads
+use Rattle.assignment_solver.proofs.steps.go_on.Reads as go-on-reads
+use Rattle.assignment_solver.proofs.steps.hand_back.Reads as hand-back-reads
+use Rattle.assignment_solver.proofs.steps.nothing_known.Reads as nothing-known-reads
+
+-- src/beginning.rt:98:9
+nothing-known-requires : tie.Need-nothing-known-requires
+nothing-known-requires c κs = search needs
+
+-- src/beginning.rt:100:9
+hand-back-requires : tie.Need-hand-back-requires
+hand-back-requires c κs = search needs
+
+-- src/beginning.rt:100:9
+returns : tie.Need-returns
+unfolding begunLevels
+returns c = rw (c .before .if1 .taken) (c .hand-back .ensures ∙ rw (c .before .before .nothing-known .ensures))
+
+-- src/beginning.rt:102:9
+start-of-requires : tie.Need-start-of-requires
+start-of-requires c κs = (omega (arith, c .if1 .left), c .before .before .before .pre)
+
+-- src/beginning.rt:103:16
+sub-last : tie.Need-sub-last
+sub-last c = omega (arith, c .before .if1 .left)
+
+-- src/beginning.rt:104:5
+go-on-requires : tie.Need-go-on-requires
+go-on-requires c κs = (omega (arith, c .before .if1 .left), c .before .before .before .before .pre, omega arith)
+
+-- src/beginning.rt:89:1
+returns-2 : tie.Need-returns-2
+unfolding begunLevels
+returns-2 c = rw (ne-eqb _ _ (c .before .before .if1 .left)) (c .go-on .ensures ∙ rw (c .before .start-of .ensures, c .before .before .before .nothing-known .ensures))
+
+pub begin-levels-spec : {M : Type 1} → statement M
+begin-levels-spec =
+    tie.close
+    (tie.spec
+    nothing-known-requires
+    hand-back-requires
+    returns
+    start-of-requires
+    sub-last
+    go-on-requires
+    returns-2)

@@ -1,0 +1,65 @@
+use native.Mathlib.Nat.{mul-le-mul}
+use native.Mathlib.Omega.{arith}
+use lib.ListN.{length}
+use Rattle.counting.specs.Tests.{so}
+use Rattle.schedule_state.specs.Numbers.{number-refused, number-else}
+use Rattle.assignment_solver.specs.Search.{told}
+use Rattle.assignment_solver.specs.Calls.{besideLevels, wrongLength, heldNumber, tellNumber}
+use Rattle.assignment_solver.specs.Numbers.{day-holding}
+use borrow.Author.Needs.{needs}
+use Rattle.assignment_solver.proofs.numbers.tell_number.Statement.{statement}
+use Rattle.assignment_solver.proofs.numbers.tell_number.Tie as tie
+use Rattle.assignment_solver.proofs.numbers.tell_number.Reads as reads
+use Rattle.assignment_solver.proofs.numbers.tell_number.Lts as lts
+use Rattle.assignment_solver.proofs.numbers.beside.Reads as beside-reads
+use Rattle.assignment_solver.proofs.numbers.held_number.Reads as held-number-reads
+use Rattle.assignment_solver.proofs.numbers.wrong_length.Reads as wrong-length-reads
+use Rattle.assignment_solver.proofs.steps.is_feasible.Reads as is-feasible-reads
+use Rattle.input_data.proofs.day_number.Reads as day-number-reads
+
+-- src/numbers.rt:142:16
+mul-size : tie.Need-mul-size
+mul-size c = omega (arith, mul-le-mul (c .before .before .before .pre .choosers) (c .before .before .before .pre .slots))
+
+-- src/numbers.rt:143:30
+is-feasible-requires : tie.Need-is-feasible-requires
+is-feasible-requires c κs = search needs
+
+-- src/numbers.rt:143:9
+wrong-length-requires : tie.Need-wrong-length-requires
+wrong-length-requires c κs = search needs
+
+-- src/numbers.rt:144:54
+beside-requires : tie.Need-beside-requires
+beside-requires c κs = search needs
+
+-- src/numbers.rt:144:9
+day-number-requires : tie.Need-day-number-requires
+day-number-requires c κs = search needs
+
+-- src/numbers.rt:146:9
+returns : tie.Need-returns
+unfolding tellNumber
+returns c = let a = c .before .before .before .before .before .before .before .before .args in number-refused (a .limits) (a .day) (besideLevels (a .day) (a .levels .now) (wrongLength (a .limits) (told (a .result) (a .plan .now)))) _ (rw (c .before .before .beside .ensures, c .before .before .before .wrong-length .ensures, c .before .before .before .before .is-feasible .ensures) at (c .before .day-number .ensures)) (c .if1 .taken)
+
+-- src/numbers.rt:148:5
+held-number-requires : tie.Need-held-number-requires
+held-number-requires c κs = let a = c .before .before .before .before .before .before .before .before .args in day-holding (a .limits) (a .day) (a .levels .now) (a .result) (a .plan .now) 0 (c .before .before .before .before .before .before .before .before .pre) (so (rw (c .before .before .beside .ensures, c .before .before .before .wrong-length .ensures, c .before .before .before .before .is-feasible .ensures) at (c .before .day-number .ensures)) (c .if1 .left))
+
+-- src/numbers.rt:131:1
+returns-2 : tie.Need-returns-2
+unfolding tellNumber
+returns-2 c = let a = c .before .before .before .before .before .before .before .before .before .args in number-else (a .limits) (a .day) (besideLevels (a .day) (a .levels .now) (wrongLength (a .limits) (told (a .result) (a .plan .now)))) _ (rw (c .before .before .before .beside .ensures, c .before .before .before .before .wrong-length .ensures, c .before .before .before .before .before .is-feasible .ensures) at (c .before .before .day-number .ensures)) (c .before .if1 .left) (c .held-number .ensures)
+
+pub tell-number-spec : {M : Type 1} → statement M
+tell-number-spec =
+    tie.close
+    (tie.spec
+    mul-size
+    is-feasible-requires
+    wrong-length-requires
+    beside-requires
+    day-number-requires
+    returns
+    held-number-requires
+    returns-2)

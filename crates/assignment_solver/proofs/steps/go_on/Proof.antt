@@ -1,0 +1,60 @@
+use native.Mathlib.Omega.{arith}
+use borrow.Author.Tests.{lt-ltb, le-ltb}
+use mathlib.Core.Path.{_∙_}
+use Rattle.assignment_solver.specs.Steps.{next}
+use Rattle.assignment_solver.specs.Laws.{middle-most}
+use borrow.Author.Needs.{needs}
+use Rattle.assignment_solver.proofs.steps.go_on.Statement.{statement}
+use Rattle.assignment_solver.proofs.steps.go_on.Tie as tie
+use Rattle.assignment_solver.proofs.steps.go_on.Reads as reads
+use Rattle.assignment_solver.proofs.steps.go_on.Lts as lts
+use Rattle.assignment_solver.proofs.steps.end.Reads as end-reads
+use Rattle.assignment_solver.proofs.steps.hand_back.Reads as hand-back-reads
+use Rattle.assignment_solver.proofs.steps.middle_of.Reads as middle-of-reads
+
+-- src/steps.rt:226:9
+end-requires : tie.Need-end-requires
+end-requires c κs = search needs
+
+-- src/steps.rt:226:9
+returns : tie.Need-returns
+unfolding next
+returns c = rw (lt-ltb _ _ (c .before .if1 .taken)) (c .end .ensures)
+
+-- src/steps.rt:228:9
+middle-of-requires : tie.Need-middle-of-requires
+middle-of-requires c κs = search needs
+
+-- src/steps.rt:229:17
+add-count : tie.Need-add-count
+add-count c = search needs
+
+-- src/steps.rt:230:17
+mul-level : tie.Need-mul-level
+mul-level c = omega (arith, c .middle-of .ensures, middle-most _ _ (c .before .if1 .left), c .before .before .before .pre .0, c .before .before .before .pre .1)
+
+-- src/steps.rt:230:17
+shared-slice-read-level : tie.Need-shared-slice-read-level
+shared-slice-read-level c = omega (arith, c .before .middle-of .ensures, middle-most _ _ (c .before .before .if1 .left), c .before .before .before .before .pre .0)
+
+-- src/steps.rt:231:5
+hand-back-requires : tie.Need-hand-back-requires
+hand-back-requires c κs = search needs
+
+-- src/steps.rt:212:1
+returns-2 : tie.Need-returns-2
+unfolding next
+returns-2 c = rw (le-ltb _ _ (c .before .before .before .if1 .left)) (c .hand-back .ensures ∙ rw (c .before .before .middle-of .ensures))
+
+pub go-on-spec : {M : Type 1} → statement M
+go-on-spec =
+    tie.close
+    (tie.spec
+    end-requires
+    returns
+    middle-of-requires
+    add-count
+    mul-level
+    shared-slice-read-level
+    hand-back-requires
+    returns-2)

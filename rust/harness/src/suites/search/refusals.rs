@@ -1,0 +1,126 @@
+//! Begin and tell on damaged input: the number that the second reading gives,
+//! and zeros beside it. What the damage leaves sound is compared with the second
+//! reading of the search.
+use crate::answers::refused_search;
+use crate::boundary;
+use crate::damage::{self, Damage, Input};
+use crate::day::{Day, random_day, random_size};
+use crate::features::Features;
+use crate::plan::{PLAN, random_plan};
+use crate::random::Random;
+use crate::reading::{Handed, faults};
+use crate::run::{Days, Outcome, Run, wanted};
+use crate::schedule::random_schedule;
+use crate::search::{FEASIBLE, INFEASIBLE, begun, told};
+use crate::suites::refused::{self, Numbers, damaged, first};
+use oracle::Told;
+use port::SearchAnswer;
+use port::guarded::Guarded;
+
+const DAYS: Days = Days { usual: 20_000, for_features: 5_000 };
+
+/// Damaged inputs on each day.
+const TRIES: usize = 5;
+
+/// The numbers by which each call refuses. Its done calls are looked for too.
+const NUMBERS: [Numbers; 2] = [
+    ("begin", &[0, 1, 3, 4, 5, 7, 8, 9, 10, 11, 13]),
+    ("tell", &[0, 1, 2, 3, 4, 5, 7, 8, 9, 10, 11, 13, 18]),
+];
+
+pub fn run(run: &mut Run) {
+    let damages = damage::of_searches();
+    let mut features = refused::features(&damages, &NUMBERS);
+    run.each_day(DAYS, &mut features, |random, features| one_day(random, &damages, features));
+}
+
+fn one_day(random: &mut Random, damages: &[&Damage], features: &mut Features) -> Outcome {
+    let size = random_size(random);
+    let day = random_day(random, size);
+    for _ in 0..TRIES {
+        let sound = input(random, &day);
+        let input = damaged(random, damages, features, sound);
+        begin(random, features, &input)?;
+        tell(random, features, &input)?;
+    }
+    Ok(())
+}
+
+/// Sound input, save where there are seats and no choice to sit in: there every
+/// plan is refused.
+fn input(random: &mut Random, day: &Day) -> Input {
+    let schedule = random_schedule(random, day);
+    let plan = random_plan(random, day, &schedule).unwrap_or(vec![0; PLAN]);
+    Input { schedule, plan, ..Input::bare(day.clone()) }.searching(random)
+}
+
+fn begin(random: &mut Random, features: &mut Features, input: &Input) -> Outcome {
+    let Input { day, schedule, search, .. } = input;
+    let handed = Handed {
+        day: Some(day),
+        levels: Some(&day.levels),
+        schedule: Some(schedule),
+        cached: Some(&search.cached),
+        ..Handed::default()
+    };
+    let number = first(features, "begin", &faults(&handed));
+    let lent_day = boundary::day(random, day);
+    let lent = boundary::schedule(random, day, schedule);
+    let answer = if number > 0 { refused_search(number) } else { begun(day, lent, search.cached) };
+    let mut levels = Guarded::holding(&day.levels);
+    let found = port::begin(&lent_day, lent, levels.lend(), day.bound, day.greedy, &search.cached);
+    let trace = || format!("begin of {input:?}");
+    wanted(found, answer, trace)?;
+    wanted(levels.changed(), None, trace)
+}
+
+fn tell(random: &mut Random, features: &mut Features, input: &Input) -> Outcome {
+    let Input { day, search, result, plan, .. } = input;
+    let schedule = boundary::slots(&search.schedule);
+    // Without a feasible result the plan is not looked at.
+    let handed = Handed {
+        day: Some(day),
+        levels: Some(&day.levels),
+        schedule: Some(&schedule),
+        plan: (*result == FEASIBLE).then_some(plan),
+        search: Some(search),
+        cached: Some(&search.cached),
+        ..Handed::default()
+    };
+    let number = first(features, "tell", &faults(&handed));
+    look(features, &handed, plan, number);
+    let entry = match *result {
+        FEASIBLE => Told::Feasible,
+        INFEASIBLE => Told::Infeasible,
+        _ => Told::Late,
+    };
+    let answer = if number > 0 { refused_search(number) } else { told(day, search, entry, plan) };
+    let (mut levels, mut lent) = (Guarded::holding(&day.levels), Guarded::holding(plan));
+    let lent_day = boundary::day(random, day);
+    let found = port::tell(&lent_day, search, levels.lend(), *result, lent.lend());
+    let trace = || format!("tell of {input:?}");
+    wanted(without_free_range(found), without_free_range(answer), trace)?;
+    wanted((levels.changed(), lent.changed()), (None, None), trace)
+}
+
+/// A greedy search has no range: it is free what comes back of one that was
+/// handed in.
+fn without_free_range(mut answer: SearchAnswer) -> SearchAnswer {
+    if answer.search.greedy {
+        (answer.search.start, answer.search.low, answer.search.high) = (0, 0, 0);
+    }
+    answer
+}
+
+/// A told plan that would be refused makes no difference beside another result.
+fn look(features: &mut Features, handed: &Handed, plan: &[u8], number: u32) {
+    let is_unseen = handed.plan.is_none() && number == 0;
+    let would_be = faults(&Handed { plan: Some(plan), ..*handed });
+    for number in [2, 13] {
+        let is_passed = is_unseen && would_be.contains(&number);
+        features.look(format!("tell passes over {number} of a plan"), is_passed);
+    }
+    let is_greedy = handed.search.is_some_and(|search| search.greedy);
+    features.look("tell gives 18, greedy", number == 18 && is_greedy);
+    features.look("tell gives 0, greedy", number == 0 && is_greedy);
+}

@@ -1,0 +1,147 @@
+//! Searches of one solver of the Rust and of the port beside each other, one
+//! after the other. The Rust remembers inside itself; the port's memory is
+//! handed on.
+use crate::answers::refused_search;
+use crate::boundary;
+use crate::day::Day;
+use crate::plan::{PLAN, of_rows, rows};
+use crate::random::Random;
+use crate::run::{Failure, Outcome, same, wanted};
+use crate::schedule::Schedule;
+use crate::search::{FEASIBLE, INFEASIBLE, ask_of, begun, told};
+use oracle::{Problem, SearchRun, Solver, Told};
+use port::guarded::Guarded;
+use port::{CachedAssignment, InputData, Scheduling, Search, SearchAnswer};
+
+/// Tells what is searched.
+type Trace<'a> = dyn Fn() -> String + 'a;
+
+pub struct Walk<'a> {
+    day: &'a Day,
+    solver: Solver<'a>,
+    levels: Guarded<u32>,
+    /// What the port remembers.
+    pub cached: CachedAssignment,
+    /// The port's last search.
+    pub port: Search,
+}
+
+impl<'a> Walk<'a> {
+    /// A solver that remembers nothing. A memory that is handed to the port must
+    /// not be one that answers.
+    pub fn new(day: &'a Day, problem: &'a Problem, cached: CachedAssignment) -> Self {
+        Self {
+            day,
+            solver: problem.solver(),
+            levels: Guarded::holding(&day.levels),
+            cached,
+            port: Search::default(),
+        }
+    }
+
+    /// A search told what the script says, one entry an ask, compared at each.
+    /// Gives the Rust's.
+    pub fn search(
+        &mut self,
+        random: &mut Random,
+        schedule: &Schedule,
+        script: &[Told],
+    ) -> Result<SearchRun, Failure> {
+        let own = self.day;
+        let cached = boundary::remembered(random, own, self.cached);
+        let trace = || format!("{own:?} {schedule:?} {script:?} with {cached:?}");
+        let rust = self.solver.search_told(&schedule[..own.choices], script);
+        let day = boundary::day(random, own);
+        let lent = boundary::schedule(random, own, schedule);
+        let mut answer = self.begin(&day, lent, &cached, &trace)?;
+        for (place, &entry) in script.iter().enumerate() {
+            same(ask_of(&answer), rust.asks.get(place).cloned(), trace)?;
+            if !answer.search.asking {
+                break;
+            }
+            let plan = self.plan(random, entry, answer.level);
+            answer = self.tell(random, &day, &answer.search, (entry, &plan), &trace)?;
+        }
+        same(answer.search.asks as usize, rust.asks.len(), trace)?;
+        self.is_over(random, &day, &answer.search, &trace)?;
+        self.ends(&answer.search, &rust, &trace)?;
+        Ok(rust)
+    }
+
+    fn begin(
+        &mut self,
+        day: &InputData,
+        schedule: Scheduling,
+        cached: &CachedAssignment,
+        trace: &Trace,
+    ) -> Result<SearchAnswer, Failure> {
+        let Day { bound, greedy, .. } = *self.day;
+        let found = port::begin(day, schedule, self.levels.lend(), bound, greedy, cached);
+        let input = || format!("begin {}", trace());
+        wanted(found, begun(self.day, schedule, *cached), input)?;
+        wanted(self.levels.changed(), None, input)?;
+        Ok(found)
+    }
+
+    /// The plan that the Rust's solver is told with Feasible; otherwise anything
+    /// of any length.
+    fn plan(&mut self, random: &mut Random, entry: Told, limit: u32) -> Vec<u8> {
+        if entry == Told::Feasible {
+            return of_rows(random, &self.solver.plan_told(limit));
+        }
+        let length = random.pick(&[0, 1, PLAN - 1, PLAN, PLAN + 1]);
+        vec![random.bits() as u8; length]
+    }
+
+    fn tell(
+        &mut self,
+        random: &mut Random,
+        day: &InputData,
+        search: &Search,
+        (entry, plan): (Told, &[u8]),
+        trace: &Trace,
+    ) -> Result<SearchAnswer, Failure> {
+        let others = [2, 3, 256, u32::MAX];
+        let result = match entry {
+            Told::Feasible => FEASIBLE,
+            Told::Infeasible => INFEASIBLE,
+            Told::Late => random.pick(&others),
+        };
+        let mut lent = Guarded::holding(plan);
+        let found = port::tell(day, search, self.levels.lend(), result, lent.lend());
+        let input = || format!("tell {search:?} {result} {}", trace());
+        wanted(found, told(self.day, search, entry, plan), input)?;
+        wanted((self.levels.changed(), lent.changed()), (None, None), input)?;
+        Ok(found)
+    }
+
+    /// A search that has ended can be told nothing.
+    fn is_over(
+        &mut self,
+        random: &mut Random,
+        day: &InputData,
+        search: &Search,
+        trace: &Trace,
+    ) -> Outcome {
+        let (result, length) = random.pick(&[(FEASIBLE, PLAN), (INFEASIBLE, 0), (2, 0)]);
+        // Feasible takes a sound plan, which there is where one was found.
+        let result = if search.found { result } else { result.max(INFEASIBLE) };
+        let found = port::tell(day, search, self.levels.lend(), result, &search.plan[..length]);
+        let input = || format!("after the end {search:?} {}", trace());
+        wanted((found, self.levels.changed()), (refused_search(18), None), input)
+    }
+
+    /// The Rust has the same plan and remembers the same.
+    fn ends(&mut self, search: &Search, rust: &SearchRun, trace: &Trace) -> Outcome {
+        let day = self.day;
+        let plan = |plan: &[u8; PLAN]| rows(day, &plan.to_vec());
+        same(search.found.then(|| plan(&search.plan)), rust.plan.clone(), trace)?;
+        let cached = &search.cached;
+        let slots = || boundary::slots(&cached.schedule)[..day.choices].to_vec();
+        let is_own = cached.there && cached.greedy == day.greedy;
+        let remembered = is_own.then(|| (slots(), plan(&cached.plan)));
+        same(remembered, rust.remembered.clone(), trace)?;
+        (self.cached, self.port) = (*cached, *search);
+        Ok(())
+    }
+}
