@@ -172,6 +172,17 @@ typedef struct {
     cendravoka_search search;
 } cendravoka_search_answer;
 
+/* Whether a test holds; no where refused. */
+typedef struct {
+    uint32_t number;
+    bool holds;
+} cendravoka_verdict_answer;
+
+typedef struct {
+    uint32_t number;
+    cendravoka_score score;
+} cendravoka_score_answer;
+
 /* A fresh build of the state of a schedule. The slot lists are written into
  * lists, of at least 256 bytes. Refused by 1, 2, 3, 4, 7, 8, 9, 10, 11. */
 cendravoka_state_answer cendravoka_build(cendravoka_input_data day, cendravoka_scheduling schedule,
@@ -286,6 +297,36 @@ cendravoka_search_answer cendravoka_begin(cendravoka_input_data day, cendravoka_
 cendravoka_search_answer cendravoka_tell(cendravoka_input_data day, cendravoka_search search,
                                          const uint32_t *levels, size_t levels_length,
                                          uint32_t result, const uint8_t *plan, size_t plan_length);
+
+/* The verdict on a schedule: Scoring::satisfies_constraints_scheduling, and
+ * Scheduling::is_feasible. Refused by 1, 3, 4, 7, 8, 9, 10, 11. */
+cendravoka_verdict_answer cendravoka_satisfies_constraints_scheduling(
+    cendravoka_input_data day, cendravoka_scheduling schedule);
+cendravoka_verdict_answer cendravoka_schedule_is_feasible(cendravoka_input_data day,
+                                                          cendravoka_scheduling schedule);
+
+/* The verdict on a plan of exactly 512 bytes:
+ * Scoring::satisfies_constraints_assignment, and Scoring::is_feasible. Refused by
+ * 1, 2, 3, 4, 7, 8, 9, 10, 11, 13 (an entry is no choice, or one without a
+ * slot). */
+cendravoka_verdict_answer cendravoka_satisfies_constraints_assignment(
+    cendravoka_input_data day, cendravoka_scheduling schedule,
+    const uint8_t *plan, size_t plan_length);
+cendravoka_verdict_answer cendravoka_is_feasible(cendravoka_input_data day,
+                                                 cendravoka_scheduling schedule,
+                                                 const uint8_t *plan, size_t plan_length);
+
+/* Scoring::evaluate. solution: 2 Complete, with schedule and plan; 1 Scheduling,
+ * whose plan is not looked at; anything else Invalid, whose schedule is not
+ * looked at either. What has no plan scores infinite twice. preferences has
+ * choosers * choices numbers, powers max_preference + 1, any floats. Refused as
+ * the verdict on a plan, with 2 and 4 of the tables, by 11 and 13 only of the
+ * parts that the solution has. */
+cendravoka_score_answer cendravoka_evaluate(
+    cendravoka_input_data day, uint32_t solution, cendravoka_scheduling schedule,
+    const uint8_t *plan, size_t plan_length, bool greedy,
+    const uint32_t *preferences, size_t preferences_length,
+    const float *powers, size_t powers_length);
 
 /* Constraint::negation. 9: kind 6, SlotHasLimitedSize, without an operator. */
 cendravoka_negation_answer cendravoka_negation(uint32_t kind, uint32_t left, uint32_t target_case,

@@ -95,6 +95,22 @@ choices-most choices slots plan c =
 
 -- ---- what accepted input satisfies
 
+-- a day within what the types hold
+pub record Small (d : InputData) : Type 0 where
+  pub choosers : d .choosers ≤ 64
+  pub choices : d .choices ≤ 32
+  pub slots : d .slots ≤ 8
+
+pub small : {l : Limits} {d : InputData} → Within l → Accepted l d → Small d
+small w a = record {
+  choosers = omega (arith, w .choosers, a .choosers);
+  choices = omega (arith, w .choices, a .choices);
+  slots = omega (arith, w .slots, a .slots);
+}
+
+pub seats-most : {d : InputData} → Small d → seats d ≤ 512
+seats-most s = mul-le-mul (s .choosers) (s .slots)
+
 pub record PlanAccepted (l : Limits) (d : InputData) (plan : List ℕ) (short asked : Bool) : Type 0 where
   pub day : Accepted l d
   pub long : short ≡ false

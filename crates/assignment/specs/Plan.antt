@@ -1,6 +1,6 @@
 -- A plan read by chooser and slot (document 01's plan is the Rust's Assignment), check 13, and rosters. Definitions only.
 use Prim.Native.Nat.{ℕ, _+_, _*_}
-use mathlib.Core.Bool.{Bool, _||_}
+use mathlib.Core.Bool.{Bool, not, _||_}
 use mathlib.Core.List.{List, [], _∷_}
 use lib.Dec.{eqb, ltb, leb}
 use Rattle.counting.specs.Fold.{anyTo, onlyIf, joinTo, gate, tableTo}
@@ -9,6 +9,10 @@ use Rattle.scheduling.specs.Schedule.{entryAt}
 -- chooser c's seat in slot s; `slots` is the count of the day's slots
 abbrev pub choiceOf : ℕ → List ℕ → ℕ → ℕ → ℕ
 choiceOf slots plan c s = entryAt plan (c * slots + s)
+
+-- choice k has a slot
+abbrev pub isScheduled : List ℕ → ℕ → Bool
+isScheduled sch k = not (eqb (entryAt sch k) 0)
 
 -- 13. an entry that is no choice
 abbrev pub noChoice : ℕ → List ℕ → ℕ → Bool

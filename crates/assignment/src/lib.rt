@@ -8,6 +8,7 @@ pub use checks::kept_plan;
 pub use rosters::choices_ordered;
 pub use rosters::choosers_ordered;
 pub use seats::choice_of;
+pub use seats::has_seat;
 pub use seats::is_in_choice;
 
 // How many entries the roster has; 0 where refused.

@@ -13,7 +13,7 @@ ghost use Rattle.assignment.specs.Plan.{isSeat};
 ghost use Rattle.assignment.specs.Calls.{inChoice, inChoiceAnswer, choice, choiceAnswer};
 
 // Whether some seat of a row is the choice.
-fn has_seat(slots: usize, plan: &[u8], base: usize, choice: usize) -> bool
+pub fn has_seat(slots: usize, plan: &[u8], base: usize, choice: usize) -> bool
     requires { ⌜ base + slots ≤ length (now plan) ⌝ }
     ensures { λ r. ⌜ r ≡ anyTo slots (isSeat (now (plan .entry)) base choice) ⌝ }
 {

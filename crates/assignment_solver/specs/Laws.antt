@@ -1,14 +1,13 @@
 -- Laws of the steps: the start, the middle, what narrows a range. Assumes nothing.
-use Prim.Native.Nat.{ℕ, suc, _+_, _-_, _/_, _<_, _≤_, min}
-use mathlib.Core.Path.{_≡_, refl, sym, ap, _∙_}
-use mathlib.Core.Bool.{Bool, true, false, cond}
+use Prim.Native.Nat.{ℕ, _+_, _-_, _<_, _≤_}
+use mathlib.Core.Path.{_≡_, sym, _∙_}
+use mathlib.Core.Bool.{true, false}
 use mathlib.Core.List.{List}
 use mathlib.Core.Logic.{_≢_}
 use native.Mathlib.Omega.{arith}
-use lib.Dec.{eqb, ltb, leb}
 use lib.ListN.{length}
-use borrow.Author.Tests.{eqb-false, lt-ltb, le-ltb}
-use Rattle.counting.specs.Search.{firstTo, first-at, first-most, first-passes}
+use borrow.Author.Tests.{eqb-false}
+use Rattle.counting.specs.Search.{firstTo, first-at, first-passes}
 use Rattle.counting.specs.Tests.{lt-cases, never, eq-cases}
 use Rattle.assignment_solver.specs.Search.{reaches, startOf, middle, endsAt, highAfter, isFeasible}
 use Rattle.assignment_solver.specs.declared.LimitSolveResult.{LimitSolveResult}

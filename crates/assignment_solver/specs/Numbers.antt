@@ -1,36 +1,31 @@
 -- What accepted input satisfies, and the numbers as the code comes to them. Assumes nothing.
-use Prim.Native.Nat.{ℕ, _*_, _<_, _≤_}
-use mathlib.Core.Path.{_≡_, refl, sym, ap, _∙_}
-use mathlib.Core.Bool.{Bool, true, false, cond, not, _&&_, _||_}
+use Prim.Native.Nat.{ℕ, _<_, _≤_}
+use mathlib.Core.Path.{_≡_, sym, _∙_}
+use mathlib.Core.Bool.{Bool, true, false, not, _&&_, _||_}
 use mathlib.Core.List.{List}
 use mathlib.Core.Logic.{_≢_}
 use native.Mathlib.Nat.{mul-le-mul}
 use native.Mathlib.Omega.{arith}
 use lib.Dec.{eqb, ltb, leb}
 use lib.ListN.{length}
-use borrow.Author.Tests.{eqb-true, eq-eqb, ne-eqb, ltb-false, leb-false, not-false}
+use borrow.Author.Tests.{eqb-true, ne-eqb, ltb-false, leb-false, not-false}
 use Rattle.counting.specs.Tests.{or-split}
-use Rattle.input_data.specs.Accepted.{Accepted, accepted, past, first-zero}
-use Rattle.input_data.specs.Checks.{firstOf, dayNumber, badLevels}
+use Rattle.input_data.specs.Accepted.{accepted, past, first-zero}
+use Rattle.input_data.specs.Checks.{dayNumber, badLevels}
 use Rattle.input_data.specs.Lengths.{Within, planLength}
 use Rattle.input_data.specs.declared.Limits.{Limits}
 use Rattle.input_data.specs.declared.InputData.{InputData}
 use Rattle.scheduling.specs.declared.Scheduling.{Scheduling}
 use Rattle.schedule_state.specs.Calls.{outside}
 use Rattle.assignment.specs.Calls.{seats}
+use Rattle.assignment.specs.Laws.{Small, small}
 use Rattle.assignment_solver.specs.Search.{Told, told, isFeasible}
 use Rattle.assignment_solver.specs.Steps.{refused, begunAnswer, toldAnswer}
-use Rattle.assignment_solver.specs.Calls.{besideLevels, wrongLength, outsideCached, badCached, beginNumber, badRange, spentAt, spent, badTold, heldNumber, tellNumber, answerOf, beginAnswer, tellAnswer}
+use Rattle.assignment_solver.specs.Calls.{besideLevels, wrongLength, outsideCached, beginNumber, badRange, spentAt, spent, badTold, heldNumber, tellNumber, answerOf, beginAnswer, tellAnswer}
 use Rattle.assignment_solver.specs.declared.CachedAssignment.{CachedAssignment}
 use Rattle.assignment_solver.specs.declared.LimitSolveResult.{LimitSolveResult}
 use Rattle.assignment_solver.specs.declared.Search.{Search}
 use Rattle.assignment_solver.specs.declared.SearchAnswer.{SearchAnswer}
-
--- a day within what the types hold
-pub record Small (d : InputData) : Type 0 where
-  pub choosers : d .choosers ≤ 64
-  pub choices : d .choices ≤ 32
-  pub slots : d .slots ≤ 8
 
 -- what begin works with
 pub record Beginning (d : InputData) (levels : List ℕ) : Type 0 where
@@ -51,16 +46,6 @@ pub record Ranged (s : Search) (levels : List ℕ) : Type 0 where
   pub asks : s .asks ≤ 256
 
 -- ---- laws
-
-pub seats-most : {d : InputData} → Small d → seats d ≤ 512
-seats-most s = mul-le-mul (s .choosers) (s .slots)
-
-small : {l : Limits} {d : InputData} → Within l → Accepted l d → Small d
-small w a = record {
-  choosers = omega (arith, w .choosers, a .choosers);
-  choices = omega (arith, w .choices, a .choices);
-  slots = omega (arith, w .slots, a .slots);
-}
 
 levels-few : (m : ℕ) (levels : List ℕ) → badLevels m levels ≡ false → length levels ≤ 256
 unfolding badLevels

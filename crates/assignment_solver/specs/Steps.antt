@@ -1,11 +1,10 @@
 -- A search that is handed back after each ask: begun, and told an answer. Definitions only.
-use Prim.Native.Nat.{ℕ, _+_, _-_, _*_}
+use Prim.Native.Nat.{ℕ, _+_, _-_}
 use mathlib.Core.Bool.{Bool, true, false, cond, not, _&&_, _||_}
 use mathlib.Core.List.{List}
-use lib.Dec.{eqb, ltb, leb}
+use lib.Dec.{eqb, ltb}
 use lib.ListN.{length, replicate}
 use Rattle.assignment.specs.Calls.{seats}
-use Rattle.counting.specs.Fold.{anyTo}
 use Rattle.counting.specs.Tests.{someBelow}
 use Rattle.input_data.specs.declared.InputData.{InputData}
 use Rattle.scheduling.specs.Schedule.{entryAt, kept}

@@ -1,5 +1,5 @@
 -- A run is the search (Run.antt): steps driven by answers make document 01's asks, in order, and its result. Assumes nothing.
-use Prim.Native.Nat.{ℕ, zero, suc, _+_, _-_, _*_, _<_, _≤_}
+use Prim.Native.Nat.{ℕ, suc, _+_, _-_, _<_, _≤_}
 use mathlib.Core.Path.{_≡_, refl, sym, ap, ap₂, _∙_}
 use mathlib.Core.Bool.{Bool, true, false, cond, not, _&&_, _||_}
 use mathlib.Core.List.{List, [], _∷_, _++_}
@@ -8,26 +8,27 @@ use native.Mathlib.Nat.{zero-add, add-zero, le-refl}
 use native.Mathlib.Omega.{arith}
 use lib.Dec.{eqb, ltb, leb}
 use lib.ListN.{length}
-use borrow.Author.Tests.{eq-eqb, ne-eqb, lt-ltb, le-ltb, lt-leb, not-true}
-use Rattle.counting.specs.Fold.{fold-ext, gate, onlyIf, tableTo}
+use borrow.Author.Tests.{ne-eqb, lt-ltb, le-ltb, lt-leb, not-true}
+use Rattle.counting.specs.Fold.{fold-ext, gate, onlyIf}
 use Rattle.counting.specs.Lists.{table-at}
 use Rattle.counting.specs.Tests.{bool-cases, lt-cases, eq-cases, never, or-split, and-split, below-each, each-below}
-use Rattle.input_data.specs.Accepted.{accepted, past, first-zero, number-past}
+use Rattle.input_data.specs.Accepted.{past, first-zero, number-past}
 use Rattle.input_data.specs.Checks.{firstOf, dayNumber}
-use Rattle.input_data.specs.Lengths.{Within, planLength}
+use Rattle.input_data.specs.Lengths.{Within}
 use Rattle.input_data.specs.declared.Limits.{Limits}
 use Rattle.input_data.specs.declared.InputData.{InputData}
-use Rattle.scheduling.specs.Schedule.{entryAt, kept, kept-at, badEntryAt, badSlots}
+use Rattle.scheduling.specs.Schedule.{entryAt, kept, kept-at, kept-twice, badEntryAt, badSlots}
 use Rattle.scheduling.specs.declared.Scheduling.{Scheduling}
 use Rattle.schedule_state.specs.Calls.{outside}
 use Rattle.assignment.specs.Calls.{seats}
 use Rattle.assignment.specs.Plan.{keptPlan, keptSeat, badPlanFor, unseated}
-use Rattle.assignment_solver.specs.Search.{Told, told, Ask, Outcome, known, nothing, isFeasible, foundAt, learnt, learntGreedy, askAt, ended, waiting, asked, levelAt, startOf, middle, endsAt, lowAfter, highAfter, searchFrom, searchLevels, searchGreedy, searched}
-use Rattle.assignment_solver.specs.Steps.{searchWith, answer, refused, scheduleOf, remembers, recalled, remembered, over, next, begunLevels, begunAnswer, knownBy, toldRange, toldGreedy, toldAnswer}
-use Rattle.assignment_solver.specs.Calls.{besideLevels, wrongLength, badIf, outsideCached, badCached, beginNumber, beginAnswer, badRange, spentAt, spent, badTold, heldNumber, tellNumber, tellAnswer, answerOf}
-use Rattle.assignment_solver.specs.Laws.{start-most, middle-least, middle-most, above-start, high-most}
-use Rattle.assignment_solver.specs.Numbers.{Small, day-small, day-few, seats-most}
-use Rattle.assignment_solver.specs.Run.{ifDone, answerTo, after, run, askOf, askedAfter, asksOf, counts, counted, outcome, memory, IsSearch, RunIsSearch}
+use Rattle.assignment_solver.specs.Search.{Told, told, Ask, Outcome, known, nothing, isFeasible, foundAt, learnt, learntGreedy, askAt, ended, waiting, asked, levelAt, startOf, middle, endsAt, lowAfter, highAfter, searchFrom, searchLevels, searchGreedy}
+use Rattle.assignment_solver.specs.Steps.{searchWith, answer, refused, scheduleOf, remembers, recalled, remembered, over, next, begunLevels, begunAnswer, knownBy, toldAnswer}
+use Rattle.assignment_solver.specs.Calls.{besideLevels, wrongLength, badIf, outsideCached, badCached, beginNumber, beginAnswer, spentAt, spent, badTold, heldNumber, tellNumber, tellAnswer}
+use Rattle.assignment_solver.specs.Laws.{middle-least, middle-most, above-start}
+use Rattle.assignment_solver.specs.Numbers.{day-small, day-few}
+use Rattle.assignment.specs.Laws.{Small, seats-most}
+use Rattle.assignment_solver.specs.Run.{after, run, askOf, askedAfter, asksOf, counts, counted, outcome, memory, IsSearch, RunIsSearch}
 use Rattle.assignment_solver.specs.declared.CachedAssignment.{CachedAssignment}
 use Rattle.assignment_solver.specs.declared.Known.{Known}
 use Rattle.assignment_solver.specs.declared.LimitSolveResult.{LimitSolveResult}
@@ -35,21 +36,7 @@ use Rattle.assignment_solver.specs.declared.LimitSolveResult.the-variant
 use Rattle.assignment_solver.specs.declared.Search.{Search}
 use Rattle.assignment_solver.specs.declared.SearchAnswer.{SearchAnswer}
 
--- ---- what is handed back is handed back again
-
--- a table that is read where it is kept, and kept again
-kept-twice : (most n : ℕ) (f : ℕ → ℕ) → tableTo most (λ i. gate (ltb i n) (entryAt (tableTo most (λ j. gate (ltb j n) (f j))) i)) ≡ tableTo most (λ i. gate (ltb i n) (f i))
-kept-twice most n f = fold-ext _++_ [] most (λ i. gate (ltb i n) (entryAt (tableTo most g) i) ∷ []) (λ i. g i ∷ []) (λ i h. ap (λ (v : ℕ). v ∷ []) (ap (gate (ltb i n)) (table-at most g 0 i h) ∙ twice (ltb i n) (f i)))
-  where
-    g : ℕ → ℕ
-    g j = gate (ltb j n) (f j)
-
-    twice : (b : Bool) (x : ℕ) → gate b (gate b x) ≡ gate b x
-    twice true x = refl
-    twice false x = refl
-
-schedule-twice : (n : ℕ) (sch : List ℕ) → kept n (kept n sch) ≡ kept n sch
-schedule-twice n sch = kept-twice 32 n (entryAt sch)
+-- ---- what is handed back
 
 -- 13 reads no byte past the last seat
 kept-good : (choices n : ℕ) (sch plan : List ℕ) → n ≤ 512 → badPlanFor choices n sch (keptPlan n plan) ≡ badPlanFor choices n sch plan
@@ -366,7 +353,7 @@ module _ (l : Limits) (d : InputData) (sch : Scheduling) (levels : List ℕ) (bo
         within = w;
         day = number-past l d (besideLevels d levels false) rest 0 e;
         inside = each-below 32 (d .choices) (badEntryAt (d .slots) (scheduleOf d sch)) (λ k h. ap (λ x. ltb (d .slots) x) (kept-at (d .choices) (sch .entries) k h (s .choices)) ∙ below-each 32 (d .choices) (badEntryAt (d .slots) (sch .entries)) (s .choices) (u .0) k h);
-        same = schedule-twice (d .choices) (sch .entries);
+        same = kept-twice (d .choices) (sch .entries);
         cached-inside = u .1;
         cached-good = r .0;
       }

@@ -17,7 +17,7 @@ ghost use Rattle.scheduling.specs.Schedule.{badSlots};
 ghost use Rattle.input_data.specs.Lengths.{Within};
 ghost use Rattle.assignment_solver.specs.Search.{told};
 ghost use Rattle.assignment_solver.specs.Numbers.{Holding};
-ghost use Rattle.assignment_solver.specs.Calls.{besideLevels, spentAt, wrongLength, beginNumber, heldNumber, tellNumber};
+ghost use Rattle.assignment_solver.specs.Calls.{besideLevels, spentAt, beginNumber, heldNumber, tellNumber};
 
 // 13 of a plan that is there.
 fn bad_if(there: bool, choices: usize, seats: usize, schedule: Scheduling, plan: &[u8]) -> bool

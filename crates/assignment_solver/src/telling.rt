@@ -18,7 +18,7 @@ use input_data::Limits;
 ghost use mathlib.Core.Path.{_≡_};
 ghost use Rattle.input_data.specs.Lengths.{Within, fullDay};
 ghost use Rattle.assignment_solver.specs.Search.{told};
-ghost use Rattle.assignment_solver.specs.Steps.{knownBy, toldGreedy, toldRange, toldAnswer};
+ghost use Rattle.assignment_solver.specs.Steps.{knownBy, toldGreedy, toldRange};
 ghost use Rattle.assignment_solver.specs.Calls.{tellAnswer};
 ghost use Rattle.assignment_solver.specs.Numbers.{Holding, Ranged};
 

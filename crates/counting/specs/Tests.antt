@@ -119,6 +119,9 @@ fault-all most n f e p = rw e at p
 pub any-more : (i : ℕ) (f : ℕ → Bool) {bad t : Bool} → bad ≡ anyTo i f → t ≡ f i → (bad || t) ≡ anyTo (i + 1) f
 any-more i f p q = rw (fold-more _||_ false i f, p, q)
 
+pub all-more : (i : ℕ) (f : ℕ → Bool) {met t : Bool} → met ≡ allTo i f → t ≡ f i → (met && t) ≡ allTo (i + 1) f
+all-more i f p q = rw (fold-more _&&_ true i f, p, q)
+
 -- where the array has room for them, all are looked at
 pub below-any : (most n : ℕ) (f : ℕ → Bool) → n ≤ most → someBelow most n f ≡ anyTo n f
 unfolding someBelow

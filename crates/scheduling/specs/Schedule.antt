@@ -1,15 +1,15 @@
 -- A schedule by its entries: 0 is none, s + 1 is slot s. Definitions and their laws.
 use Prim.Native.Nat.{ℕ, zero, suc, _-_, _<_, _≤_}
 use mathlib.Core.Path.{_≡_, refl, ap, _∙_}
-use mathlib.Core.Bool.{Bool, false}
+use mathlib.Core.Bool.{Bool, true, false}
 use mathlib.Core.Logic.{_≢_}
 use native.Mathlib.Omega.{arith}
-use mathlib.Core.List.{List}
+use mathlib.Core.List.{List, [], _∷_, _++_}
 use native.Mathlib.Nat.{lt-of-lt-of-le}
 use lib.Dec.{ltb}
 use lib.ListN.{getD}
 use borrow.Author.Tests.{ltb-false, lt-ltb}
-use Rattle.counting.specs.Fold.{gate, tableTo}
+use Rattle.counting.specs.Fold.{gate, tableTo, fold-ext}
 use Rattle.counting.specs.Lists.{table-at}
 use Rattle.counting.specs.Tests.{someBelow, below-each, each-below}
 use Rattle.scheduling.specs.declared.SlotOf.{SlotOf}
@@ -63,3 +63,11 @@ entries-fit choices slots sch h e k l = ltb-false slots (entryAt sch k) (below-e
 -- what is handed back names the same slots
 pub kept-at : (choices : ℕ) (sch : List ℕ) (k : ℕ) → k < choices → choices ≤ 32 → entryAt (kept choices sch) k ≡ entryAt sch k
 kept-at choices sch k l h = table-at 32 (keptAt choices sch) 0 k (lt-of-lt-of-le l h) ∙ rw (lt-ltb k choices l)
+
+-- what is handed back is handed back as it is
+gate-twice : (b : Bool) (x : ℕ) → gate b (gate b x) ≡ gate b x
+gate-twice true x = refl
+gate-twice false x = refl
+
+pub kept-twice : (n : ℕ) (sch : List ℕ) → kept n (kept n sch) ≡ kept n sch
+kept-twice n sch = fold-ext _++_ [] 32 (λ k. keptAt n (kept n sch) k ∷ []) (λ k. keptAt n sch k ∷ []) (λ k h. ap (λ (v : ℕ). v ∷ []) (ap (gate (ltb k n)) (table-at 32 (keptAt n sch) 0 k h) ∙ gate-twice (ltb k n) (entryAt sch k)))

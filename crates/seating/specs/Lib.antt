@@ -3,5 +3,6 @@ pub mod Constraints
 pub mod Scores
 pub mod States
 pub mod Searches
+pub mod Verdicts
 pub mod SampleDay
 pub mod SampleRun

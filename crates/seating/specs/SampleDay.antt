@@ -1,13 +1,12 @@
 -- Document 01's sample day: the rows marked P that are there so far, proved together as one fact about one list.
-use Prim.Native.Nat.{ℕ, _≤_}
-use mathlib.Core.Path.{_≡_, refl, sym, ap, _∙_}
+use Prim.Native.Nat.{ℕ}
+use mathlib.Core.Path.{_≡_, refl, ap}
 use mathlib.Core.Bool.{false, true, cond}
-use mathlib.Core.List.{List, [], _∷_, _++_}
-use native.Mathlib.Omega.{arith}
+use mathlib.Core.List.{List, [], _∷_}
 use lib.Dec.{leb}
 use lib.IntN.{ℤ, pos, negsuc}
-use lib.ListN.{length, take, replicate}
-use lib.Ieee.{Float, fin}
+use lib.ListN.{take, replicate}
+use lib.Ieee.{Float, fin, add, mul, div, ofInt}
 use Rattle.constraint.specs.Kind.{kindOf}
 use Rattle.input_data.specs.Checks.{firstOf, dayNumber, lateNumber, memberCount, badPreferences, badLevels, badCosts}
 use Rattle.input_data.specs.Day.{noNumbers}
@@ -51,6 +50,16 @@ use Rattle.assignment_solver.specs.declared.LimitSolveResult.the-variants.{Feas
 use Rattle.assignment_solver.specs.declared.Search.{Search}
 use Rattle.assignment_solver.specs.declared.SearchAnswer.{SearchAnswer}
 use Rattle.schedule_state.specs.Good.{full-within}
+use Rattle.satisfies_constraints.specs.Constraints.{schedulingMet, assignmentMet}
+use Rattle.scoring.specs.Calls.{verdict, partsNumber, verdictNumber, planAnswer, evaluateNumber, evaluateAnswer}
+use Rattle.scoring.specs.Calls as Answers
+use Rattle.scoring.specs.Evaluate.{evaluated}
+use Rattle.scoring.specs.Feasible.{planFeasible}
+use Rattle.scoring.specs.declared.ScoreAnswer.{ScoreAnswer}
+use Rattle.scoring.specs.declared.Solution.the-variants.{Complete}
+use Rattle.score.specs.declared.Score.{Score}
+use Rattle.seat_counts.specs.Preferences.{greatestRow, greatest, usesRow, uses, minorTo, minorOf}
+use Rattle.seat_counts.specs.Seats.{isNew, onceEach, noneTwice, partCount, allFilled}
 use Rattle.seating.specs.Scores.{score}
 
 abbrev pub noConstraints : ConstraintList
@@ -139,6 +148,16 @@ valued v = pos 0 ∷ pos 1 ∷ pos 1 ∷ pos 1 ∷ pos 1 ∷ pos 0 ∷ pos v ∷
 abbrev pub numberOf : ℕ → ℕ
 numberOf v = checkNumber fullDay (atLimitOne sampleDay) named (valued v) 512
 
+abbrev pub scoreAnswer : ℕ → Score → ScoreAnswer
+scoreAnswer n s = Answers.score n s
+
+-- powers 0 1 8, and a buffer that begins with rows 1 2 and 0 2
+abbrev pub powers : List Float
+powers = fin false 0 (pos 0) ∷ fin false 1 (pos 0) ∷ fin false 1 (pos 3) ∷ []
+
+abbrev pub planned : List ℕ
+planned = 1 ∷ 2 ∷ 0 ∷ 2 ∷ replicate 508 0
+
 -- five levels, of a day whose max_preference allows them
 abbrev pub levels : List ℕ
 levels = 0 ∷ 1 ∷ 2 ∷ 3 ∷ 4 ∷ []
@@ -193,8 +212,10 @@ rows =
     -- limit 1 has 8 edges: 0 to 4, 0 to 5, 1 to 6, 2 to 4, 3 to 6, 4 to 7, 5 to 7, 6 to 8
     ∷ ((networkOf fullDay (atLimitOne sampleDay) .from ≡ 0 ∷ 0 ∷ 1 ∷ 2 ∷ 3 ∷ 4 ∷ 5 ∷ 6 ∷ [])
     × (networkOf fullDay (atLimitOne sampleDay) .to ≡ 4 ∷ 5 ∷ 6 ∷ 4 ∷ 6 ∷ 7 ∷ 7 ∷ 8 ∷ []))
-    -- values 0 1 1 1 1 0 1 0 decode to rows 1 2 and 0 2
-    ∷ ((numberOf 1 ≡ 0) × (planOf fullDay (atLimitOne sampleDay) (valued 1) ≡ 1 ∷ 2 ∷ 0 ∷ 2 ∷ []))
+    -- values 0 1 1 1 1 0 1 0 decode to rows 1 2 and 0 2, feasible, score (1, 0.25)
+    ∷ ((numberOf 1 ≡ 0) × (planOf fullDay (atLimitOne sampleDay) (valued 1) ≡ 1 ∷ 2 ∷ 0 ∷ 2 ∷ [])
+    × (planAnswer fullDay sampleDay atFirst planned ≡ verdict 0 true)
+    × (evaluateAnswer fullDay sampleDay Complete atFirst planned false preferences powers ≡ scoreAnswer 0 (score (fin false 1 (pos 0)) (fin false 1 (negsuc 1)))))
     -- edge 6 given 3: 14
     ∷ (numberOf 3 ≡ 14)
     -- edge 6 given 0: 17
@@ -230,6 +251,14 @@ out-of-balance : numberOf 0 ≡ 17
 unfolding stateNumber dayNumber lateNumber firstOf badPreferences badCosts memberCount misheld miscountedIn misblocked networkOf supplies seatsOf choicesOf openSeats chooserSeats slotSeats isOpen preferenceOf scheduled namesOf names constraintsNames dependentNames each valuesNumber someOutside someUsed someUneven someUnbalanced flow eqZ foldTo carried visit leftBy blockedBy someBelow
 out-of-balance = refl
 
+feasible : planAnswer fullDay sampleDay atFirst planned ≡ verdict 0 true
+unfolding planAnswer verdictNumber partsNumber planFeasible schedulingMet assignmentMet noneTwice onceEach isNew allFilled partCount badPlanFor dayNumber lateNumber firstOf memberCount someBelow foldTo
+feasible = refl
+
+quarter : evaluateAnswer fullDay sampleDay Complete atFirst planned false preferences powers ≡ scoreAnswer 0 (score (fin false 1 (pos 0)) (fin false 1 (negsuc 1)))
+unfolding evaluateAnswer evaluateNumber evaluated planFeasible schedulingMet assignmentMet noneTwice onceEach isNew allFilled partCount minorOf minorTo greatest greatestRow uses usesRow partsNumber badPlanFor badPreferences dayNumber lateNumber firstOf memberCount someBelow foldTo add mul div ofInt
+quarter = refl
+
 search-accepted : beginNumber fullDay searchDay atFirst levels nothingCached ≡ 0
 unfolding beginNumber dayNumber lateNumber firstOf badLevels memberCount someBelow foldTo
 search-accepted = refl
@@ -247,4 +276,4 @@ one-ask = let r = begun 5 lastAnswer .is in (r .asks-are, r .waits)
 
 pub sample-day : All rows
 unfolding kindOf networkOf supplies seatsOf choicesOf openSeats chooserSeats slotSeats isOpen preferenceOf scheduled numberFrom edgeOf namesOf names constraintsNames constraintNames sameChoicesNames slotNames dependentNames each allThere eqZ planOf decoded choiceFor foldTo firstTo carried visit leftBy blockedBy someBelow
-sample-day = ((refl, refl), ((refl, refl), ((accepted-values, refl), (above-max, (out-of-balance, ((refl, refl), ((refl, refl, refl, refl, refl), (two-asks, (one-ask, (minus-zero-first, tt))))))))))
+sample-day = ((refl, refl), ((refl, refl), ((accepted-values, refl, feasible, quarter), (above-max, (out-of-balance, ((refl, refl), ((refl, refl, refl, refl, refl), (two-asks, (one-ask, (minus-zero-first, tt))))))))))

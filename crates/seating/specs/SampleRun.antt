@@ -11,6 +11,10 @@ use Rattle.input_data.specs.Lengths.{fullDay}
 use Rattle.schedule_state.specs.Agreement.{Call, Carried, after, run, Fed, AsFresh}
 use Rattle.schedule_state.specs.CarriedAgrees.{carried-agrees}
 use Rattle.schedule_state.specs.Calls.{buildNumber, updateNumber}
+use Rattle.feasible_plans.specs.DemandThree.{Demand, lastSchedule}
+use Rattle.feasible_plans.specs.DemandThreeHolds.{demand-three}
+use Rattle.feasible_plans.specs.Premises.{Premises}
+use Rattle.satisfies_constraints.specs.Constraints.{schedulingMet}
 use Rattle.seating.specs.SampleDay.{sampleDay, noConstraints, atFirst, moved, buffer, built, move}
 
 pub accepted : buildNumber fullDay sampleDay atFirst (length buffer) ≡ 0
@@ -39,6 +43,14 @@ fed = ((λ e. (refl, refl, refl)), ((λ e. absurd (let z : _≡_ {A = ℕ} 1 0 =
 
 pub sample-run : AsFresh sampleDay (run built calls) buffer
 sample-run = carried-agrees sampleDay atFirst buffer accepted calls fed buffer (omega arith)
+
+-- demand 3 speaks of this run, and its premises can be met
+pub sample-demand : Demand sampleDay (run built calls) buffer
+sample-demand = demand-three sampleDay atFirst buffer accepted calls fed buffer (omega arith)
+
+pub sample-premises : Premises sampleDay (lastSchedule sampleDay (run built calls))
+unfolding schedulingMet foldTo
+sample-premises = record { scheduling = refl; tied = record { shares = λ j h. absurd (omega arith) } }
 
 -- the move is accepted
 pub move-accepted : updateNumber fullDay sampleDay (built .state) moved (built .lists) ≡ 0

@@ -1,6 +1,6 @@
 -- Scores in numbers. Assumes nothing.
 use Prim.Native.Nat.{ℕ, zero, suc, _+_, _*_, _<_, _≤_}
-use mathlib.Core.Path.{_≡_, refl, sym, _∙_}
+use mathlib.Core.Path.{_≡_, sym, _∙_}
 use mathlib.Core.Bool.{cond, not}
 use mathlib.Core.List.{List}
 use native.Mathlib.Omega.{arith}

@@ -1,21 +1,20 @@
 -- A slot's list in numbers. Definitions and their laws.
 use Prim.Native.Nat.{ℕ, _+_, _*_, _≤_}
-use mathlib.Core.Path.{_≡_, sym, ap, _∙_}
+use mathlib.Core.Path.{_≡_, _∙_}
 use mathlib.Core.Bool.{cond}
 use mathlib.Core.List.{List}
 use mathlib.Core.Logic.{_≢_}
 use native.Mathlib.Omega.{arith}
 use lib.Dec.{eqb}
-use lib.ListN.{length, take, drop, length-drop}
+use lib.ListN.{length, drop, length-drop}
 use lib.Seq.{length-take-le}
-use borrow.Author.Tests.{eq-eqb, ne-eqb}
-use denote.Ref.{RefT, now}
+use borrow.Author.Tests.{ne-eqb}
 use Rattle.input_data.specs.Lengths.{fullDay}
 use Rattle.input_data.specs.declared.InputData.{InputData}
 use Rattle.scheduling.specs.Schedule.{entryAt}
 use Rattle.slot_lists.specs.Sums.{inSlot}
 use Rattle.counting.specs.Sums.{count-le}
-use Rattle.schedule_state.specs.Calls.{slotListNumber, slotListLength, slotListIn, HandsBack}
+use Rattle.schedule_state.specs.Calls.{slotListNumber, slotListLength, slotListIn}
 use Rattle.schedule_state.specs.Good.{full-within, part-in}
 use Rattle.schedule_state.specs.Numbers.{slot-list-accepted}
 use Rattle.schedule_state.specs.State.{keptOf}

@@ -5,3 +5,4 @@ pub mod models;
 pub mod scores;
 pub mod searches;
 pub mod states;
+pub mod verdicts;

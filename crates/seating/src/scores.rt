@@ -6,7 +6,7 @@ ghost use mathlib.Core.Path.{_≡_};
 ghost use Prim.Native.Nat.{_*_, _≤_};
 ghost use lib.ListN.{length};
 ghost use Rattle.score.specs.Order.{infiniteTwice, finiteScore, scoreOrder, orderNumber};
-ghost use Rattle.seating.specs.Scores.{score, scoreBits, noBits, refusedBits, bestBits, bestIn, Reads, Near};
+ghost use Rattle.seating.specs.Scores.{score, scoreBits, refusedBits, bestBits, bestIn, Reads, Near};
 
 #[repr(C)]
 pub struct ScoreBits {
@@ -22,7 +22,7 @@ pub struct BestBits {
     pub score: ScoreBits,
 }
 
-fn bits_of(s: Score) -> ScoreBits
+pub fn bits_of(s: Score) -> ScoreBits
     ensures { λ r. ⌜ r ≡ scoreBits s ⌝ }
 {
     ScoreBits {

@@ -15,6 +15,7 @@ pub mod panics;
 pub mod plan;
 pub mod random;
 pub mod reading;
+pub mod recording;
 pub mod records;
 pub mod run;
 pub mod schedule;

@@ -3,6 +3,7 @@
 use crate::features::Features;
 use crate::panics::caught;
 use crate::random::Random;
+use crate::recording;
 use std::fmt::Debug;
 
 /// Failed cases of a suite that are printed; the rest are counted.
@@ -29,7 +30,8 @@ pub struct Settings {
     pub count: Option<u64>,
     /// The one case to run.
     pub case: Option<u64>,
-    /// The file of recorded answers to look at.
+    /// The proved program's file of recorded answers. Where it is looked at, so is
+    /// that of the calls.
     pub records: Option<String>,
 }
 
@@ -94,6 +96,7 @@ impl<'a> Run<'a> {
         let case = self.next;
         self.next += 1;
         if self.settings.case.is_none_or(|only| only == case) {
+            recording::start_case();
             let mut random = Random::of_case(self.settings.seed, self.suite, case);
             self.judge(Some(case), || test(&mut random));
         }

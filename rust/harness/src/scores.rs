@@ -1,6 +1,12 @@
-//! Scores for tests: special values and random ones.
+//! Scores for tests: special values, random ones, and the scores of plans by a
+//! second reading of document 01.
 use crate::answers::Pair;
+use crate::day::Day;
 use crate::random::Random;
+use oracle::Plan;
+
+/// The score of anything without a feasible plan.
+pub const INFINITE: Pair = (f32::INFINITY, f32::INFINITY);
 
 /// Bit patterns of special values.
 pub const SPECIAL: [u32; 20] = [
@@ -68,4 +74,23 @@ pub fn score_near(random: &mut Random, (major, minor): Pair) -> Pair {
         3 => (major, near(random, minor)),
         _ => (major, -minor),
     }
+}
+
+/// The score of a feasible plan, by document 01 and the lent powers.
+pub fn score_of(day: &Day, plan: &Plan) -> Pair {
+    let mut counts = vec![0_u32; day.powers.len()];
+    for (chooser, row) in plan.iter().enumerate() {
+        for &choice in row {
+            counts[day.preference(chooser, choice) as usize] += 1;
+        }
+    }
+    let top = day.max_preference as usize;
+    let scaling = if top == 0 { 1.0 } else { day.powers[top] };
+    let mut minor = 0.0_f32;
+    for (count, power) in counts.iter().zip(&day.powers) {
+        minor += *count as f32 * power / scaling;
+    }
+    let used = counts.iter().rposition(|&count| count > 0).unwrap_or(0);
+    let major = if day.greedy { f32::NAN } else { used as f32 };
+    if minor.is_finite() { (major, minor) } else { INFINITE }
 }

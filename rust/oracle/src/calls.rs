@@ -40,15 +40,12 @@ pub fn satisfies_assignment(problem: &Problem, schedule: &Schedule, plan: &Plan)
 
 /// `Scoring::is_feasible`.
 pub fn plan_is_feasible(problem: &Problem, schedule: &Schedule, plan: &Plan) -> bool {
-    let solution = solution(problem, Some(schedule), Some(plan));
-    Scoring::is_feasible(problem.input_data(), &solution)
+    Solved::new(problem, Some(schedule), Some(plan)).is_feasible()
 }
 
 /// `Scoring::evaluate`: major and minor.
 pub fn evaluate(problem: &Problem, schedule: Option<&Schedule>, plan: Option<&Plan>) -> (f32, f32) {
-    let solution = solution(problem, schedule, plan);
-    let score = problem.prepared.scoring.evaluate(problem.input_data(), &solution);
-    (score.major, score.minor)
+    Solved::new(problem, schedule, plan).evaluate()
 }
 
 /// `Score::cmp`.
@@ -60,6 +57,36 @@ pub fn compare((major, minor): (f32, f32), right: (f32, f32)) -> Ordering {
 /// `Score::is_finite`.
 pub fn is_finite((major, minor): (f32, f32)) -> bool {
     Score { major, minor }.is_finite()
+}
+
+/// A solution as the originals keep it.
+pub struct Solved<'a> {
+    problem: &'a Problem,
+    solution: Solution,
+}
+
+impl<'a> Solved<'a> {
+    pub fn new(problem: &'a Problem, schedule: Option<&Schedule>, plan: Option<&Plan>) -> Self {
+        Self { problem, solution: solution(problem, schedule, plan) }
+    }
+
+    /// `Scheduling::is_feasible` of its schedule.
+    pub fn schedule_is_feasible(&self) -> bool {
+        let scheduling = self.solution.scheduling().expect("it has a schedule");
+        scheduling.is_feasible(self.problem.input_data())
+    }
+
+    /// `Scoring::is_feasible`.
+    pub fn is_feasible(&self) -> bool {
+        Scoring::is_feasible(self.problem.input_data(), &self.solution)
+    }
+
+    /// `Scoring::evaluate`: major and minor.
+    pub fn evaluate(&self) -> (f32, f32) {
+        let scoring = &self.problem.prepared.scoring;
+        let score = scoring.evaluate(self.problem.input_data(), &self.solution);
+        (score.major, score.minor)
+    }
 }
 
 /// A plan as the originals keep it.

@@ -172,6 +172,21 @@ pub struct SearchAnswer {
     pub search: Search,
 }
 
+/// Whether a test holds.
+#[repr(C)]
+#[derive(Debug, Clone, Copy, PartialEq, Eq)]
+pub struct VerdictAnswer {
+    pub number: u32,
+    pub holds: bool,
+}
+
+#[repr(C)]
+#[derive(Debug, Clone, Copy, PartialEq, Eq)]
+pub struct ScoreAnswer {
+    pub number: u32,
+    pub score: Score,
+}
+
 unsafe extern "C" {
     pub fn cendravoka_build(
         day: InputData,
@@ -299,6 +314,38 @@ unsafe extern "C" {
         plan: *const u8,
         plan_length: usize,
     ) -> SearchAnswer;
+    pub safe fn cendravoka_satisfies_constraints_scheduling(
+        day: InputData,
+        schedule: Scheduling,
+    ) -> VerdictAnswer;
+    pub safe fn cendravoka_schedule_is_feasible(
+        day: InputData,
+        schedule: Scheduling,
+    ) -> VerdictAnswer;
+    pub fn cendravoka_satisfies_constraints_assignment(
+        day: InputData,
+        schedule: Scheduling,
+        plan: *const u8,
+        plan_length: usize,
+    ) -> VerdictAnswer;
+    pub fn cendravoka_is_feasible(
+        day: InputData,
+        schedule: Scheduling,
+        plan: *const u8,
+        plan_length: usize,
+    ) -> VerdictAnswer;
+    pub fn cendravoka_evaluate(
+        day: InputData,
+        solution: u32,
+        schedule: Scheduling,
+        plan: *const u8,
+        plan_length: usize,
+        greedy: bool,
+        preferences: *const u32,
+        preferences_length: usize,
+        powers: *const f32,
+        powers_length: usize,
+    ) -> ScoreAnswer;
     pub safe fn cendravoka_negation(
         kind: u32,
         left: u32,

@@ -18,10 +18,12 @@ pub trait Element: Copy + PartialEq + fmt::Debug + 'static {
     fn of_bytes(bytes: &[u8]) -> Self;
     /// The pattern of guard zones and new buffers, made once.
     fn pattern() -> &'static [Self];
+    /// Whether both hold the same bytes.
+    fn are_same(left: &[Self], right: &[Self]) -> bool;
 }
 
 macro_rules! elements {
-    ($($number:ty)*) => {
+    ($($number:ty => $are_same:expr,)*) => {
         $(impl Element for $number {
             fn bytes(self) -> Vec<u8> {
                 self.to_ne_bytes().to_vec()
@@ -33,11 +35,32 @@ macro_rules! elements {
                 static PATTERN: LazyLock<Vec<$number>> = LazyLock::new(|| pattern(LONGEST));
                 &PATTERN
             }
+            fn are_same(left: &[Self], right: &[Self]) -> bool {
+                $are_same(left, right)
+            }
         })*
     };
 }
 
-elements!(u8 u16 i32 u32 i64);
+elements! {
+    u8 => equal,
+    u16 => equal,
+    i32 => equal,
+    u32 => equal,
+    i64 => equal,
+    f32 => equal_bits,
+}
+
+/// Whole slices compare much faster than one element after the other.
+fn equal<T: PartialEq>(left: &[T], right: &[T]) -> bool {
+    left == right
+}
+
+/// Equal floats can differ in their bytes, and a NaN equals nothing.
+fn equal_bits(left: &[f32], right: &[f32]) -> bool {
+    let bits = |floats: &[f32]| floats.iter().map(|float| float.to_bits()).collect::<Vec<_>>();
+    bits(left) == bits(right)
+}
 
 /// A byte that is not as it should be, counted from the start of its zone.
 #[derive(Debug, Clone, Copy, PartialEq, Eq)]
@@ -128,11 +151,11 @@ fn pattern<T: Element>(length: usize) -> Vec<T> {
 
 /// The first byte in which the two differ.
 fn first_difference<T: Element>(left: &[T], right: &[T]) -> Option<usize> {
-    // Whole slices compare much faster than one element after the other.
-    if left == right {
+    if T::are_same(left, right) {
         return None;
     }
-    let cell = left.iter().zip(right).position(|(left, right)| left != right)?;
+    let differ = |(left, right): (&T, &T)| left.bytes() != right.bytes();
+    let cell = left.iter().zip(right).position(differ)?;
     let (left, right) = (left[cell].bytes(), right[cell].bytes());
     let byte = left.iter().zip(&right).position(|(left, right)| left != right);
     Some(cell * size_of::<T>() + byte.expect("unequal numbers have unequal bytes"))
@@ -171,7 +194,16 @@ mod tests {
             every_byte_is_watched::<i32>(length);
             every_byte_is_watched::<u32>(length);
             every_byte_is_watched::<i64>(length);
+            every_byte_is_watched::<f32>(length);
         }
+    }
+
+    #[test]
+    fn tells_floats_by_their_bytes() {
+        let mut buffer = Guarded::holding(&[f32::NAN, 0.0]);
+        assert_eq!(buffer.changed(), None);
+        buffer.lend()[1] = -0.0;
+        assert_eq!(buffer.changed(), Some(Change::Inside(7)));
     }
 
     #[test]

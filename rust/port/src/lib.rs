@@ -9,8 +9,8 @@ pub mod guarded;
 
 pub use ffi::{
     BestAnswer, CachedAssignment, ChoiceAnswer, Constraint, ConstraintList, InChoiceAnswer,
-    InputData, ModelAnswer, NegationAnswer, RosterAnswer, ScheduleState, Scheduling, Score, Search,
-    SearchAnswer, SlotListAnswer, StateAnswer,
+    InputData, ModelAnswer, NegationAnswer, RosterAnswer, ScheduleState, Scheduling, Score,
+    ScoreAnswer, Search, SearchAnswer, SlotListAnswer, StateAnswer, VerdictAnswer,
 };
 use std::fmt;
 
@@ -288,6 +288,73 @@ pub fn tell(
     let (front, length) = (levels.as_ptr(), levels.len());
     // SAFETY: as in `is_in_choice`, for each slice.
     unsafe { ffi::cendravoka_tell(*day, *search, front, length, result, plan.as_ptr(), plan.len()) }
+}
+
+/// `Scoring::satisfies_constraints_scheduling`.
+pub fn satisfies_constraints_scheduling(day: &InputData, schedule: Scheduling) -> VerdictAnswer {
+    ffi::cendravoka_satisfies_constraints_scheduling(*day, schedule)
+}
+
+/// `Scheduling::is_feasible`.
+pub fn schedule_is_feasible(day: &InputData, schedule: Scheduling) -> VerdictAnswer {
+    ffi::cendravoka_schedule_is_feasible(*day, schedule)
+}
+
+/// `Scoring::satisfies_constraints_assignment`.
+#[allow(unsafe_code)]
+pub fn satisfies_constraints_assignment(
+    day: &InputData,
+    schedule: Scheduling,
+    plan: &[u8],
+) -> VerdictAnswer {
+    let (front, length) = (plan.as_ptr(), plan.len());
+    // SAFETY: as in `is_in_choice`.
+    unsafe { ffi::cendravoka_satisfies_constraints_assignment(*day, schedule, front, length) }
+}
+
+/// `Scoring::is_feasible`.
+#[allow(unsafe_code)]
+pub fn is_feasible(day: &InputData, schedule: Scheduling, plan: &[u8]) -> VerdictAnswer {
+    // SAFETY: as in `is_in_choice`.
+    unsafe { ffi::cendravoka_is_feasible(*day, schedule, plan.as_ptr(), plan.len()) }
+}
+
+/// What is lent to be read for a score: two tables of the day.
+#[derive(Debug, Clone, Copy)]
+pub struct ScoreTables<'a> {
+    pub preferences: &'a [u32],
+    pub powers: &'a [f32],
+}
+
+/// A solution as it crosses: its kind, and a schedule and a plan that are looked
+/// at where that kind has them.
+#[derive(Debug, Clone, Copy)]
+pub struct Solution<'a> {
+    pub kind: u32,
+    pub schedule: Scheduling,
+    pub plan: &'a [u8],
+}
+
+/// `Scoring::evaluate`.
+#[allow(unsafe_code)]
+pub fn evaluate(
+    day: &InputData,
+    solution: Solution,
+    greedy: bool,
+    tables: ScoreTables,
+) -> ScoreAnswer {
+    // SAFETY: as in `is_in_choice`, for each slice.
+    #[rustfmt::skip] // A slice a line.
+    let answer = unsafe {
+        ffi::cendravoka_evaluate(
+            *day, solution.kind, solution.schedule,
+            solution.plan.as_ptr(), solution.plan.len(),
+            greedy,
+            tables.preferences.as_ptr(), tables.preferences.len(),
+            tables.powers.as_ptr(), tables.powers.len(),
+        )
+    };
+    answer
 }
 
 /// `Constraint::negation`.

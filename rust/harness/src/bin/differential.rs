@@ -19,7 +19,8 @@ fn main() -> ExitCode {
     };
     panics::set_hook();
     if let Some(path) = &options.write_records {
-        fs::write(path, records::bytes()).expect("the records can be written");
+        fs::write(path, records::program::bytes()).expect("the records can be written");
+        fs::write(records::calls::PATH, records::calls::bytes()).expect("and those of the calls");
         return ExitCode::SUCCESS;
     }
     let (made, failed) = run_all(&options);

@@ -136,6 +136,7 @@ pub fn all() -> Vec<&'static Damage> {
     by_number(&[
         days::DAMAGES,
         tables::DAMAGES,
+        tables::BUFFERS,
         tables::LEVELS,
         lent::SCHEDULES,
         lent::DAMAGES,
@@ -153,13 +154,19 @@ pub fn of_states() -> Vec<&'static Damage> {
 /// Damage to what the two calls on models are handed, by number. They have no
 /// use for preference levels.
 pub fn of_models() -> Vec<&'static Damage> {
-    by_number(&[days::DAMAGES, tables::DAMAGES, lent::SCHEDULES, lent::DAMAGES])
+    by_number(&[days::DAMAGES, tables::DAMAGES, tables::BUFFERS, lent::SCHEDULES, lent::DAMAGES])
 }
 
 /// Damage to what the calls on plans are handed, by number. Tables that they
 /// have no use for make no difference.
 pub fn of_rosters() -> Vec<&'static Damage> {
-    by_number(&[days::DAMAGES, tables::DAMAGES, plans::DAMAGES])
+    by_number(&[days::DAMAGES, tables::DAMAGES, tables::BUFFERS, plans::DAMAGES])
+}
+
+/// Damage to what the verdicts and the score are handed, by number. They have no
+/// use for costs.
+pub fn of_verdicts() -> Vec<&'static Damage> {
+    by_number(&[days::DAMAGES, tables::DAMAGES, lent::SCHEDULES, plans::DAMAGES])
 }
 
 /// Damage to what the calls of a search are handed, by number.

@@ -5,10 +5,13 @@ use crate::random::Random;
 
 pub const DAMAGES: &[Damage] = &[
     Damage { name: "a table of another length", number: 2, apply: table_length },
-    Damage { name: "a buffer too short", number: 2, apply: short_buffer },
     Damage { name: "a preference above max_preference", number: 4, apply: preference },
     Damage { name: "a cost out of range", number: 6, apply: cost },
 ];
+
+/// Damage to the lent buffers, of which there must be one.
+pub const BUFFERS: &[Damage] =
+    &[Damage { name: "a buffer too short", number: 2, apply: short_buffer }];
 
 /// Damage to the preference levels.
 pub const LEVELS: &[Damage] = &[

@@ -1,4 +1,5 @@
 //! A lent buffer, guarded, with what must stand in it.
+use crate::recording::Note;
 use crate::run::{Outcome, wanted};
 use port::guarded::{Change, Element, Guarded};
 
@@ -28,6 +29,11 @@ impl<T: Element> Kept<T> {
     /// Behind the front there must stand what stood there.
     pub fn expect(&mut self, front: &[T]) {
         self.wanted[..front.len()].copy_from_slice(front);
+    }
+
+    /// The buffer as it stands and as it must stand after the call.
+    pub fn noted(&self, note: Note) -> Note {
+        note.slice(self.buffer.now(), &self.wanted)
     }
 
     /// A failure shows what stands around the first difference.

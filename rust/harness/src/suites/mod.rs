@@ -17,6 +17,7 @@ mod roster;
 mod sample;
 mod search;
 mod state;
+pub mod verdict;
 
 pub type Suite = (&'static str, fn(&mut Run));
 
@@ -40,4 +41,6 @@ pub const SUITES: &[Suite] = &[
     ("roster_refusals", roster::refusals::run),
     ("search", search::run),
     ("search_refusals", search::refusals::run),
+    ("verdict", verdict::run),
+    ("verdict_refusals", verdict::refusals::run),
 ];

@@ -1,6 +1,6 @@
 use native.Mathlib.Omega.{arith}
 use mathlib.Core.Path.{_∙_}
-use borrow.Author.Tests.{eq-eqb, ne-eqb}
+use borrow.Author.Tests.{ne-eqb}
 use Rattle.assignment_solver.specs.Steps.{begunLevels}
 use borrow.Author.Needs.{needs}
 use Rattle.assignment_solver.proofs.beginning.begin_levels.Statement.{statement}

@@ -2,7 +2,7 @@ use native.Mathlib.Omega.{arith}
 use mathlib.Core.Path.{_∙_}
 use Rattle.counting.specs.Tests.{so}
 use Rattle.assignment_solver.specs.Steps.{begunAnswer}
-use Rattle.assignment_solver.specs.Numbers.{seats-most}
+use Rattle.assignment.specs.Laws.{seats-most}
 use borrow.Author.Needs.{needs}
 use Rattle.assignment_solver.proofs.beginning.begun.Statement.{statement}
 use Rattle.assignment_solver.proofs.beginning.begun.Tie as tie

@@ -3,7 +3,8 @@ use native.Mathlib.Omega.{arith}
 use Rattle.counting.specs.Tests.{so}
 use Rattle.schedule_state.specs.Numbers.{number-refused, number-else}
 use Rattle.assignment_solver.specs.Calls.{besideLevels, beginNumber}
-use Rattle.assignment_solver.specs.Numbers.{day-small, seats-most}
+use Rattle.assignment_solver.specs.Numbers.{day-small}
+use Rattle.assignment.specs.Laws.{seats-most}
 use borrow.Author.Needs.{needs}
 use Rattle.assignment_solver.proofs.numbers.begin_number.Statement.{statement}
 use Rattle.assignment_solver.proofs.numbers.begin_number.Tie as tie

@@ -1,7 +1,7 @@
 use native.Mathlib.Omega.{arith}
 use Rattle.counting.specs.Tests.{so}
 use Rattle.assignment_solver.specs.Calls.{heldNumber}
-use Rattle.assignment_solver.specs.Numbers.{seats-most}
+use Rattle.assignment.specs.Laws.{seats-most}
 use borrow.Author.Needs.{needs}
 use Rattle.assignment_solver.proofs.numbers.held_number.Statement.{statement}
 use Rattle.assignment_solver.proofs.numbers.held_number.Tie as tie

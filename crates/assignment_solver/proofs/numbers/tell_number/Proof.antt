@@ -1,10 +1,9 @@
 use native.Mathlib.Nat.{mul-le-mul}
 use native.Mathlib.Omega.{arith}
-use lib.ListN.{length}
 use Rattle.counting.specs.Tests.{so}
 use Rattle.schedule_state.specs.Numbers.{number-refused, number-else}
 use Rattle.assignment_solver.specs.Search.{told}
-use Rattle.assignment_solver.specs.Calls.{besideLevels, wrongLength, heldNumber, tellNumber}
+use Rattle.assignment_solver.specs.Calls.{besideLevels, wrongLength, tellNumber}
 use Rattle.assignment_solver.specs.Numbers.{day-holding}
 use borrow.Author.Needs.{needs}
 use Rattle.assignment_solver.proofs.numbers.tell_number.Statement.{statement}

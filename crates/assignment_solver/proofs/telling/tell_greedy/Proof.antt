@@ -1,6 +1,6 @@
 use native.Mathlib.Omega.{arith}
 use mathlib.Core.Path.{_∙_}
-use Rattle.assignment_solver.specs.Numbers.{seats-most}
+use Rattle.assignment.specs.Laws.{seats-most}
 use borrow.Author.Needs.{needs}
 use Rattle.assignment_solver.proofs.telling.tell_greedy.Statement.{statement}
 use Rattle.assignment_solver.proofs.telling.tell_greedy.Tie as tie

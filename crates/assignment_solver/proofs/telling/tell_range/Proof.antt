@@ -3,7 +3,7 @@ use native.Mathlib.Omega.{arith}
 use mathlib.Core.Path.{_∙_}
 use Rattle.counting.specs.Tests.{so}
 use Rattle.assignment_solver.specs.Laws.{middle-least, middle-most, above-start, high-most}
-use Rattle.assignment_solver.specs.Numbers.{seats-most}
+use Rattle.assignment.specs.Laws.{seats-most}
 use borrow.Author.Needs.{needs}
 use Rattle.assignment_solver.proofs.telling.tell_range.Statement.{statement}
 use Rattle.assignment_solver.proofs.telling.tell_range.Tie as tie

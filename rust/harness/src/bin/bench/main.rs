@@ -4,6 +4,8 @@
 mod models;
 mod plans;
 mod states;
+mod verdicts;
+mod whole;
 
 use harness::answers::{self, Pair};
 use harness::bridge;
@@ -52,6 +54,13 @@ const ROWS: &[(&str, Row)] = &[
     ("check_values, 32 + 32 constraints", models::check_values::<32>),
     ("choosers_ordered", plans::choosers_ordered),
     ("search over 256 levels, nine asks", plans::search),
+    ("schedule_is_feasible", verdicts::schedule_is_feasible::<0>),
+    ("schedule_is_feasible, 32 + 32", verdicts::schedule_is_feasible::<32>),
+    ("is_feasible", verdicts::is_feasible::<0>),
+    ("is_feasible, 32 + 32 constraints", verdicts::is_feasible::<32>),
+    ("evaluate", verdicts::evaluate::<0>),
+    ("evaluate, 32 + 32 constraints", verdicts::evaluate::<32>),
+    ("from a moved choice to a score", whole::way),
 ];
 
 fn main() {
@@ -68,6 +77,9 @@ fn main() {
         "the Rust's model, since the Rust does not test the values of its solver. A search is"
     );
     println!("from begin to end, told Incomplete at each ask, so that the Rust makes no model.");
+    println!("The constraints of verdicts and scores all hold. From a moved choice to a score are");
+    println!("update, model, check_values, is_feasible and evaluate, beside the Rust's update,");
+    println!("model, is_feasible and evaluate of the same plan.");
     println!("{:<36}{:>10}{:>10}{:>8}", "call", "port ns", "Rust ns", "ratio");
     for (call, timers) in ROWS {
         let mut random = Random::of_case(1, call, 0);

@@ -12,23 +12,28 @@ use port::{InputData, ModelAnswer, ModelTables, ScheduleState};
 /// Models in a round: one takes as long as many other calls.
 pub const INPUTS: usize = 16;
 
-/// A state with its slot lists, and values that its model accepts.
+/// A state with its slot lists.
+pub struct State {
+    pub own: ScheduleState,
+    pub lists: [u8; LISTS],
+}
+
+/// A state, and values that its model accepts.
 struct Input {
-    state: ScheduleState,
-    lists: [u8; LISTS],
+    state: State,
     values: Vec<i32>,
 }
 
 /// The port's side of a scene.
-struct Port {
+pub struct Port {
     day: InputData,
     preferences: Vec<u32>,
     costs: Vec<i64>,
-    lent: Lent,
+    pub lent: Lent,
 }
 
 impl Port {
-    fn new(scene: &Scene) -> Self {
+    pub fn new(scene: &Scene) -> Self {
         Self {
             day: scene.port,
             preferences: scene.day.preferences.clone(),
@@ -37,17 +42,17 @@ impl Port {
         }
     }
 
-    fn model(&mut self, limit: u32, input: &Input) -> ModelAnswer {
+    pub fn model(&mut self, limit: u32, state: &State) -> ModelAnswer {
         let Self { day, preferences, costs, lent } = self;
-        let tables = ModelTables { preferences, costs, lists: &input.lists };
-        port::model(day, &input.state, limit, tables, lent.lend().0)
+        let tables = ModelTables { preferences, costs, lists: &state.lists };
+        port::model(day, &state.own, limit, tables, lent.lend().0)
     }
 
-    fn check_values(&mut self, limit: u32, input: &Input) -> ModelAnswer {
+    pub fn check_values(&mut self, limit: u32, state: &State, values: &[i32]) -> ModelAnswer {
         let Self { day, preferences, costs, lent } = self;
-        let tables = ModelTables { preferences, costs, lists: &input.lists };
+        let tables = ModelTables { preferences, costs, lists: &state.lists };
         let (buffers, plan) = lent.lend();
-        port::check_values(day, &input.state, limit, tables, &input.values, buffers, plan)
+        port::check_values(day, &state.own, limit, tables, values, buffers, plan)
     }
 }
 
@@ -76,20 +81,25 @@ fn inputs(random: &mut Random, scene: &Scene, limit: u32) -> Vec<(Input, Rust)> 
         values.resize(Buffer::EdgeValues.named_length(), 0);
         let (own, rust) = scene.schedule(&schedule);
         let mut lists = [0; LISTS];
-        let state = port::build(&scene.port, own, &mut lists).state;
+        let own = port::build(&scene.port, own, &mut lists).state;
         let carried = scene.rust.build(&rust);
-        inputs.push((Input { state, lists, values }, Rust { carried, model, plan }));
+        let input = Input { state: State { own, lists }, values };
+        inputs.push((input, Rust { carried, model, plan }));
     }
     inputs
 }
 
 pub fn model<const CONSTRAINTS: usize>(random: &mut Random) -> Timers {
-    timers(random, CONSTRAINTS, Port::model, |_, _| ())
+    let call = |port: &mut Port, limit, input: &Input| port.model(limit, &input.state);
+    timers(random, CONSTRAINTS, call, |_, _| ())
 }
 
 /// Stands beside the Rust's model, since the Rust takes its solver at its word.
 pub fn check_values<const CONSTRAINTS: usize>(random: &mut Random) -> Timers {
-    timers(random, CONSTRAINTS, Port::check_values, Lent::expect_plan)
+    let call = |port: &mut Port, limit, input: &Input| {
+        port.check_values(limit, &input.state, &input.values)
+    };
+    timers(random, CONSTRAINTS, call, Lent::expect_plan)
 }
 
 /// What is timed must be done, and with the Rust's result.

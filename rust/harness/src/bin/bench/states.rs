@@ -83,11 +83,17 @@ pub fn build<const CONSTRAINTS: usize>(random: &mut Random) -> Timers {
 }
 
 pub fn update_one<const CONSTRAINTS: usize>(random: &mut Random) -> Timers {
+    let (old, new) = one_moved(random);
+    update::<CONSTRAINTS>(random, &old, &new)
+}
+
+/// Two schedules that differ in the slot of one choice.
+pub fn one_moved(random: &mut Random) -> (Schedule, Schedule) {
     let old = dealt(random);
     let choice = random.below(CHOICES);
     let mut new = old.clone();
     new[choice] = old[choice].map(|slot| (slot + 1) % SLOTS);
-    update::<CONSTRAINTS>(random, &old, &new)
+    (old, new)
 }
 
 pub fn update_all<const CONSTRAINTS: usize>(random: &mut Random) -> Timers {

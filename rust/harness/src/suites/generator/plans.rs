@@ -1,12 +1,12 @@
 //! Plans out of solved models and others, their verdicts and scores.
 use super::Scene;
 use crate::constraint::kind;
-use crate::day::Day;
 use crate::features::Features;
 use crate::plan::{Plan, changed_plan, of_rows, random_plan, rows};
 use crate::random::Random;
 use crate::reading::{self, Handed};
 use crate::run::{Failure, Outcome, wanted};
+use crate::scores::{INFINITE, score_of};
 use oracle::calls;
 
 pub fn try_plans(random: &mut Random, features: &mut Features, scene: &mut Scene) -> Outcome {
@@ -89,7 +89,7 @@ fn verdict(features: &mut Features, scene: &Scene, plan: &Plan) -> Outcome {
         && calls::satisfies_assignment(problem, slots, &plan);
     wanted(is_feasible && !is_ruled, false, input)?;
     let score = calls::evaluate(problem, Some(slots), Some(&plan));
-    let own = if is_feasible { score_of(day, &plan) } else { (f32::INFINITY, f32::INFINITY) };
+    let own = if is_feasible { score_of(day, &plan) } else { INFINITE };
     let bits = |(major, minor): (f32, f32)| (major.to_bits(), minor.to_bits());
     wanted(bits(own), bits(score), input)?;
     let is_schedule_feasible = calls::schedule_is_feasible(problem, slots);
@@ -106,25 +106,6 @@ fn verdict(features: &mut Features, scene: &Scene, plan: &Plan) -> Outcome {
 fn is_out_of_columns(scene: &Scene, plan: &oracle::Plan) -> bool {
     let misfit = |(slot, &choice): (usize, &usize)| scene.schedule[choice] != Some(slot);
     plan.iter().any(|row| row.iter().enumerate().any(misfit))
-}
-
-/// The score of a feasible plan, by document 01 and the lent powers.
-fn score_of(day: &Day, plan: &oracle::Plan) -> (f32, f32) {
-    let mut counts = vec![0_u32; day.powers.len()];
-    for (chooser, row) in plan.iter().enumerate() {
-        for &choice in row {
-            counts[day.preference(chooser, choice) as usize] += 1;
-        }
-    }
-    let top = day.max_preference as usize;
-    let scaling = if top == 0 { 1.0 } else { day.powers[top] };
-    let mut minor = 0.0_f32;
-    for (count, power) in counts.iter().zip(&day.powers) {
-        minor += *count as f32 * power / scaling;
-    }
-    let used = counts.iter().rposition(|&count| count > 0).unwrap_or(0);
-    let major = if day.greedy { f32::NAN } else { used as f32 };
-    if minor.is_finite() { (major, minor) } else { (f32::INFINITY, f32::INFINITY) }
 }
 
 /// Rosters of one choice and one chooser.

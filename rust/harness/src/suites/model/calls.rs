@@ -4,6 +4,7 @@ use crate::answers;
 use crate::boundary;
 use crate::day::Day;
 use crate::random::Random;
+use crate::recording::{Entry, Note, note};
 use crate::run::{Failure, Outcome, wanted};
 use oracle::{Plan, Record};
 use port::guarded::Guarded;
@@ -96,8 +97,21 @@ impl<'a> Calls<'a> {
         Ok(Some(plan))
     }
 
+    fn noted(&self, asked: &Asked, answer: ModelAnswer) -> Note {
+        let entry = if asked.values.is_some() { Entry::CheckValues } else { Entry::Model };
+        let note = Note::new(entry, answer.number).day(&self.lent_day).put(&self.state);
+        let note = note.put(&asked.limit).table(self.preferences.now()).table(self.costs.now());
+        let note = note.table(self.lists.now());
+        let note = match &asked.values {
+            None => self.lent.noted_model(note),
+            Some(values) => self.lent.noted_plan(self.lent.noted_model(note.table(values))),
+        };
+        note.put(&answer)
+    }
+
     /// Makes the call: it must give this answer and leave what is expected.
     pub fn gives(&mut self, asked: &Asked, answer: ModelAnswer) -> Outcome {
+        note(|| self.noted(asked, answer));
         let mut values = asked.values.as_deref().map(Guarded::holding);
         let tables = ModelTables {
             preferences: self.preferences.lend(),

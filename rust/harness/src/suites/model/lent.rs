@@ -2,6 +2,7 @@
 //! must stand in each.
 use crate::random::Random;
 use crate::reading::Buffer;
+use crate::recording::Note;
 use crate::run::Outcome;
 use crate::suites::kept::Kept;
 use oracle::{Edge, Plan, Record};
@@ -114,6 +115,19 @@ impl Lent {
             blocked: self.blocked.buffer.lend(),
         };
         (model, self.plan.buffer.lend())
+    }
+
+    /// The buffers of the model, as they stand and as they must stand.
+    pub fn noted_model(&self, note: Note) -> Note {
+        let note = self.supplies.noted(note);
+        let note = self.to.noted(self.from.noted(note));
+        let note = self.cost.noted(self.max.noted(note));
+        let note = self.ends.noted(self.entries.noted(note));
+        self.blocked.noted(note)
+    }
+
+    pub fn noted_plan(&self, note: Note) -> Note {
+        self.plan.noted(note)
     }
 
     /// What must stand in the buffers does, and nothing around them is changed.

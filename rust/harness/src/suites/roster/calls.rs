@@ -4,6 +4,7 @@ use crate::boundary;
 use crate::day::Day;
 use crate::random::Random;
 use crate::reading::Asked;
+use crate::recording::{Entry, Note, note};
 use crate::run::{Outcome, wanted};
 use crate::suites::kept::Kept;
 use oracle::calls::Seated;
@@ -116,11 +117,35 @@ impl<'a> Calls<'a> {
     /// roster and everything else as it was.
     pub fn gives(&mut self, call: Call, (answer, front): (Answer, Vec<u8>)) -> Outcome {
         self.roster.expect(&front);
+        note(|| self.noted(call, answer));
         let found = self.make(call);
         let input = || format!("{call:?} of {:?} plan {:?}", self.day, self.plan.now());
         wanted(found, answer, input)?;
         wanted(self.plan.changed(), None, input)?;
         self.roster.is_right("roster", &input)
+    }
+
+    fn noted(&self, call: Call, answer: Answer) -> Note {
+        let note =
+            |entry, number| Note::new(entry, number).day(&self.lent_day).table(self.plan.now());
+        match (call, answer) {
+            (Call::ChoosersOrdered { choice: asked }, Answer::Roster(answer)) => {
+                let note = note(Entry::ChoosersOrdered, answer.number).put(&asked);
+                self.roster.noted(note).put(&answer)
+            }
+            (Call::ChoicesOrdered { chooser: asked }, Answer::Roster(answer)) => {
+                let note = note(Entry::ChoicesOrdered, answer.number).put(&asked);
+                self.roster.noted(note).put(&answer)
+            }
+            (Call::IsInChoice { chooser, choice }, Answer::InChoice(answer)) => {
+                let note = note(Entry::IsInChoice, answer.number).known_by(answer.found);
+                note.put(&chooser).put(&choice).put(&answer)
+            }
+            (Call::ChoiceOf { chooser, slot }, Answer::Choice(answer)) => {
+                note(Entry::ChoiceOf, answer.number).put(&chooser).put(&slot).put(&answer)
+            }
+            _ => unreachable!("each call has its own answer"),
+        }
     }
 
     fn make(&mut self, call: Call) -> Answer {

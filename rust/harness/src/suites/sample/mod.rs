@@ -1,6 +1,7 @@
 //! The sample day of document 01: what the paper says of it, and of scores,
 //! holds of the Rust and, as far as it runs, of the port.
 mod models;
+mod verdicts;
 
 use crate::answers::{self, Pair};
 use crate::boundary;
@@ -23,6 +24,7 @@ pub fn run(run: &mut Run) {
     port_states(run);
     limits(run);
     models::run(run);
+    verdicts::run(run);
     searches(run);
 }
 

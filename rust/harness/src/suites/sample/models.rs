@@ -29,7 +29,6 @@ pub fn run(run: &mut Run) {
     one_model(run, &tied, Record { groups, blocked: vec![1], ..model_at_1() });
     values(run);
     plans_to_be_had(run);
-    feasible_rows(run);
 }
 
 /// The paper's model at limit 1. Its costs are those of preferences 0 and 1.
@@ -88,7 +87,7 @@ fn values(run: &mut Run) {
     }
 }
 
-fn rows() -> Plan {
+pub(super) fn rows() -> Plan {
     vec![vec![1, 2], vec![0, 2]]
 }
 
@@ -126,15 +125,6 @@ fn bounded(model: &Record) -> Vec<Vec<i32>> {
         all = all.iter().flat_map(with_one).collect();
     }
     all
-}
-
-fn feasible_rows(run: &mut Run) {
-    let problem = bridge::problem(&sample_day());
-    run.case(|_| {
-        let rows = vec![vec![2, 1], vec![2, 0]];
-        let found = oracle::calls::plan_is_feasible(&problem, &SCHEDULE, &rows);
-        wanted(found, true, || "rows 2 1 and 2 0".to_owned())
-    });
 }
 
 /// The state of the sample's schedule.

@@ -9,6 +9,7 @@ use crate::features::Features;
 use crate::plan::{PLAN, random_plan};
 use crate::random::Random;
 use crate::reading::{Handed, faults};
+use crate::recording::{Entry, Note, note};
 use crate::run::{Days, Outcome, Run, wanted};
 use crate::schedule::random_schedule;
 use crate::search::{FEASIBLE, INFEASIBLE, begun, told};
@@ -67,6 +68,10 @@ fn begin(random: &mut Random, features: &mut Features, input: &Input) -> Outcome
     let lent_day = boundary::day(random, day);
     let lent = boundary::schedule(random, day, schedule);
     let answer = if number > 0 { refused_search(number) } else { begun(day, lent, search.cached) };
+    note(|| {
+        let note = Note::new(Entry::Begin, number).day(&lent_day).put(&lent).table(&day.levels);
+        note.put(&day.bound).put(&day.greedy).put(&search.cached).put(&answer)
+    });
     let mut levels = Guarded::holding(&day.levels);
     let found = port::begin(&lent_day, lent, levels.lend(), day.bound, day.greedy, &search.cached);
     let trace = || format!("begin of {input:?}");
@@ -97,6 +102,14 @@ fn tell(random: &mut Random, features: &mut Features, input: &Input) -> Outcome 
     let answer = if number > 0 { refused_search(number) } else { told(day, search, entry, plan) };
     let (mut levels, mut lent) = (Guarded::holding(&day.levels), Guarded::holding(plan));
     let lent_day = boundary::day(random, day);
+    // The range of a greedy search is free: it is noted where it is 0.
+    if answer == without_free_range(answer) {
+        note(|| {
+            let note = Note::new(Entry::Tell, number).known_by(answer.search.asking);
+            let note = note.day(&lent_day).put(search);
+            note.table(&day.levels).put(result).table(plan).put(&answer)
+        });
+    }
     let found = port::tell(&lent_day, search, levels.lend(), *result, lent.lend());
     let trace = || format!("tell of {input:?}");
     wanted(without_free_range(found), without_free_range(answer), trace)?;

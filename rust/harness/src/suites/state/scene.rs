@@ -8,6 +8,7 @@ use crate::features::Features;
 use crate::lists::{carry, lengths};
 use crate::random::Random;
 use crate::reading::{Asked, Buffer, Handed, faults};
+use crate::recording::{Entry, Note, note};
 use crate::run::{Outcome, wanted};
 use crate::suites::refused::first;
 use port::guarded::Guarded;
@@ -33,6 +34,10 @@ impl Scene<'_, '_> {
         let lent = boundary::schedule(random, day, schedule);
         let none = vec![None; schedule.len()];
         let (answer, bytes) = self.left(number, &none);
+        note(|| {
+            let note = Note::new(Entry::Build, number).day(&lent_day).put(&lent);
+            note.slice(&state.lists, &bytes).put(&answer)
+        });
         self.judge("build", number, answer, &bytes, |lists| port::build(&lent_day, lent, lists))
     }
 
@@ -45,6 +50,10 @@ impl Scene<'_, '_> {
         let own = boundary::state(random, day, state);
         let lent = boundary::schedule(random, day, schedule);
         let (answer, bytes) = self.left(number, &state.schedule);
+        note(|| {
+            let note = Note::new(Entry::Update, number).day(&lent_day).put(&own).put(&lent);
+            note.slice(&state.lists, &bytes).put(&answer)
+        });
         let call = |lists: &mut [u8]| port::update(&lent_day, &own, lent, lists);
         self.judge("update", number, answer, &bytes, call)
     }
@@ -70,6 +79,10 @@ impl Scene<'_, '_> {
             SlotListAnswer { number, start: 0, length: 0 }
         };
         let bytes = state.lists.clone();
+        note(|| {
+            let note = Note::new(Entry::SlotList, number).day(&lent_day).put(&own);
+            note.table(&bytes).put(&slot).put(&answer)
+        });
         let call = |lists: &mut [u8]| port::slot_list(&lent_day, &own, lists, slot);
         self.judge("slot_list", number, answer, &bytes, call)
     }

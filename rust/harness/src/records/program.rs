@@ -1,6 +1,6 @@
-//! Recorded answers of the original Rust, to be replayed where it is not at
-//! hand. A record is a byte that tells its kind and then words of 32 bits,
-//! lowest byte first:
+//! Recorded answers of the original Rust, for the proved program crates/replay. A
+//! record is a byte that tells its kind and then words of 32 bits, lowest byte
+//! first:
 //!
 //! 1. negation: kind, left, target case, target, extra case, extra; number,
 //!    kind, left, target case, target, extra case, extra.

@@ -1,0 +1,7 @@
+-- A plan that seats everybody is feasible.
+pub mod Premises
+pub mod Seats
+pub mod Rules
+pub mod Feasibility
+pub mod DemandThree
+pub mod DemandThreeHolds

@@ -1,0 +1,1 @@
+// Definitions and theorems only: a plan that can be had is feasible.

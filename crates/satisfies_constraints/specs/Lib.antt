@@ -1,0 +1,3 @@
+-- scoring.rs: the two constraint tests.
+pub mod Constraints
+pub mod Laws

@@ -1,0 +1,29 @@
+use native.Mathlib.Nat.{le-trans}
+use lib.Dec.{le→leb, lit≤}
+use lib.Ieee.{inFloat}
+use borrow.Author.Needs.{needs}
+use Rattle.scoring.proofs.evaluating.major_of.Statement.{statement}
+use Rattle.scoring.proofs.evaluating.major_of.Tie as tie
+use Rattle.scoring.proofs.evaluating.major_of.Reads as reads
+use Rattle.scoring.proofs.evaluating.major_of.Lts as lts
+use Rattle.score.proofs.greedy_major.Reads as greedy-major-reads
+
+-- src/evaluating.rt:49:9
+greedy-major-requires : tie.Need-greedy-major-requires
+greedy-major-requires c κs = search needs
+
+-- src/evaluating.rt:49:9
+returns : tie.Need-returns
+returns c = search needs
+
+-- src/evaluating.rt:51:5
+int-to-float-result : tie.Need-int-to-float-result
+unfolding inFloat
+int-to-float-result c = le→leb _ _ (le-trans (c .before .before .pre) (lit≤ tt))
+
+-- src/evaluating.rt:44:1
+returns-2 : tie.Need-returns-2
+returns-2 c = rw (c .before .if1 .left)
+
+pub major-of-spec : {M : Type 1} → statement M
+major-of-spec = tie.close (tie.spec greedy-major-requires returns int-to-float-result returns-2)

@@ -1,0 +1,114 @@
+-- What the verdict's calls and evaluate give. Definitions only.
+use Prim.Native.Nat.{ℕ}
+use mathlib.Core.Bool.{Bool, true, false, cond, not, _&&_, _||_}
+use mathlib.Core.List.{List}
+use lib.Dec.{eqb}
+use lib.IntN.{pos}
+use lib.Ieee.{Float, fin}
+use lib.ListN.{length}
+use Rattle.assignment.specs.Calls.{besidePlan, seats}
+use Rattle.assignment.specs.Plan.{badPlanFor}
+use Rattle.input_data.specs.Checks.{firstOf, dayNumber, badPreferences}
+use Rattle.input_data.specs.Lengths.{planLength, preferencesLength, powersLength}
+use Rattle.input_data.specs.declared.Limits.{Limits}
+use Rattle.input_data.specs.declared.InputData.{InputData}
+use Rattle.input_data.specs.declared.checks.Beside.{Beside}
+use Rattle.schedule_state.specs.Calls.{outside}
+use Rattle.schedule_state.specs.State.{keptOf}
+use Rattle.scheduling.specs.declared.Scheduling.{Scheduling}
+use Rattle.score.specs.Order.{infiniteTwice}
+use Rattle.score.specs.declared.Score.{Score}
+use Rattle.satisfies_constraints.specs.Constraints.{schedulingMet, assignmentMet}
+use Rattle.scoring.specs.Evaluate.{evaluated}
+use Rattle.scoring.specs.Feasible.{scheduleFeasible, planFeasible}
+use Rattle.scoring.specs.declared.ScoreAnswer.{ScoreAnswer}
+use Rattle.scoring.specs.declared.VerdictAnswer.{VerdictAnswer}
+use Rattle.scoring.specs.declared.Solution.{Solution}
+use Rattle.scoring.specs.declared.Solution.the-variants as Solution
+
+abbrev pub verdict : ℕ → Bool → VerdictAnswer
+verdict n b = record { number = n; holds = b }
+
+-- the number, and the answer or no
+abbrev pub verdictOf : ℕ → Bool → VerdictAnswer
+verdictOf n b = cond (eqb n 0) (verdict 0 b) (verdict n false)
+
+-- ---- a schedule
+
+abbrev pub besideNone : Beside
+besideNone = record { lengths = false; preferences = false; levels = false; costs = false; asked = false }
+
+unfoldable pub scheduleNumber : Limits → InputData → Scheduling → ℕ
+scheduleNumber l d sch = dayNumber l d besideNone (firstOf (outside d sch) 11 0)
+
+unfoldable pub schedulingAnswer : Limits → InputData → Scheduling → VerdictAnswer
+schedulingAnswer l d sch = verdictOf (scheduleNumber l d sch) (schedulingMet d (keptOf d sch))
+
+unfoldable pub scheduleAnswer : Limits → InputData → Scheduling → VerdictAnswer
+scheduleAnswer l d sch = verdictOf (scheduleNumber l d sch) (scheduleFeasible d (keptOf d sch))
+
+-- ---- a schedule and a plan
+
+-- 13 in full
+abbrev pub badSeats : InputData → Scheduling → List ℕ → Bool
+badSeats d sch plan = badPlanFor (d .choices) (seats d) (sch .entries) plan
+
+-- 11 and 13 of the parts that are there
+unfoldable pub partsNumber : Bool → Bool → InputData → Scheduling → List ℕ → ℕ
+partsNumber schedule seated d sch plan = firstOf (schedule && outside d sch) 11 (firstOf (seated && badSeats d sch plan) 13 0)
+
+unfoldable pub verdictNumber : Limits → InputData → Scheduling → List ℕ → ℕ
+verdictNumber l d sch plan = dayNumber l d (besidePlan l (length plan) false false) (partsNumber true true d sch plan)
+
+unfoldable pub assignmentAnswer : Limits → InputData → Scheduling → List ℕ → VerdictAnswer
+assignmentAnswer l d sch plan = verdictOf (verdictNumber l d sch plan) (assignmentMet d (keptOf d sch) plan)
+
+unfoldable pub planAnswer : Limits → InputData → Scheduling → List ℕ → VerdictAnswer
+planAnswer l d sch plan = verdictOf (verdictNumber l d sch plan) (planFeasible d (keptOf d sch) plan)
+
+-- ---- a score
+
+-- which parts a solution has
+abbrev pub hasSchedule : Solution → Bool
+hasSchedule Solution.Invalid = false
+hasSchedule Solution.Scheduling = true
+hasSchedule Solution.Complete = true
+
+abbrev pub hasPlan : Solution → Bool
+hasPlan Solution.Invalid = false
+hasPlan Solution.Scheduling = false
+hasPlan Solution.Complete = true
+
+-- 2. a table has not its length, or the plan, if there is one
+abbrev pub wrongTables : Limits → InputData → Bool → ℕ → ℕ → ℕ → Bool
+wrongTables l d there preferences powers plan =
+    not (eqb preferences (preferencesLength d)) || not (eqb powers (powersLength d)) || (there && not (eqb plan (planLength l)))
+
+abbrev pub besideTables : Limits → InputData → Bool → List ℕ → ℕ → ℕ → Beside
+besideTables l d there preferences powers plan = record {
+  lengths = wrongTables l d there (length preferences) powers plan;
+  preferences = badPreferences (d .«max_preference») preferences;
+  levels = false;
+  costs = false;
+  asked = false;
+}
+
+unfoldable pub evaluateNumber : Limits → InputData → Solution → Scheduling → List ℕ → List ℕ → ℕ → ℕ
+evaluateNumber l d kind sch plan preferences powers =
+    dayNumber l d (besideTables l d (hasPlan kind) preferences powers (length plan)) (partsNumber (hasSchedule kind) (hasPlan kind) d sch plan)
+
+-- anything without a plan scores infinite twice
+abbrev pub scored : InputData → Solution → Bool → List ℕ → List Float → Scheduling → List ℕ → Score
+scored d kind greedy preferences powers sch plan = cond (hasPlan kind) (evaluated d greedy preferences powers (keptOf d sch) plan) infiniteTwice
+
+abbrev pub noScore : Score
+noScore = record { major = fin false 0 (pos 0); minor = fin false 0 (pos 0) }
+
+abbrev pub score : ℕ → Score → ScoreAnswer
+score n s = record { number = n; score = s }
+
+unfoldable pub evaluateAnswer : Limits → InputData → Solution → Scheduling → List ℕ → Bool → List ℕ → List Float → ScoreAnswer
+evaluateAnswer l d kind sch plan greedy preferences powers =
+    cond (eqb (evaluateNumber l d kind sch plan preferences (length powers)) 0)
+    (score 0 (scored d kind greedy preferences powers sch plan))
+    (score (evaluateNumber l d kind sch plan preferences (length powers)) noScore)

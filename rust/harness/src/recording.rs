@@ -1,0 +1,277 @@
+//! Notes of calls: while they are taken, each comparison of a call with what it
+//! must give leaves one. `records/calls.rs` makes a file of them.
+use crate::day::{CHOICES, CHOOSERS, SLOTS};
+use port::guarded::Element;
+use port::{
+    BestAnswer, CachedAssignment, ChoiceAnswer, Constraint, ConstraintList, InChoiceAnswer,
+    InputData, ModelAnswer, NegationAnswer, RosterAnswer, ScheduleState, Scheduling, Score,
+    ScoreAnswer, Search, SearchAnswer, SlotListAnswer, StateAnswer, VerdictAnswer,
+};
+use std::cell::RefCell;
+use std::collections::{BTreeMap, BTreeSet};
+
+/// The entries of the header, by the numbers that they have in the file.
+#[derive(Debug, Clone, Copy, PartialEq, Eq, PartialOrd, Ord)]
+#[repr(u8)]
+pub enum Entry {
+    Negation = 1,
+    IsValid,
+    IsSchedulingConstraint,
+    IsAssignmentConstraint,
+    IsFinite,
+    Compare,
+    Best,
+    Infinite,
+    GreedyMajor,
+    Build,
+    Update,
+    SlotList,
+    Model,
+    CheckValues,
+    ChoosersOrdered,
+    ChoicesOrdered,
+    IsInChoice,
+    ChoiceOf,
+    Begin,
+    Tell,
+    SatisfiesConstraintsScheduling,
+    ScheduleIsFeasible,
+    SatisfiesConstraintsAssignment,
+    IsFeasible,
+    Evaluate,
+}
+
+/// The number of the last entry.
+pub const LAST: Entry = Entry::Evaluate;
+
+/// What is passed and given is put down field by field, lowest byte first.
+pub trait Put {
+    fn put(&self, bytes: &mut Vec<u8>);
+}
+
+macro_rules! numbers {
+    ($($number:ty)*) => {
+        $(impl Put for $number {
+            fn put(&self, bytes: &mut Vec<u8>) {
+                bytes.extend(self.to_le_bytes());
+            }
+        })*
+    };
+}
+
+numbers!(u8 u32 i32 usize f32);
+
+impl Put for bool {
+    fn put(&self, bytes: &mut Vec<u8>) {
+        bytes.push(u8::from(*self));
+    }
+}
+
+impl<T: Put, const N: usize> Put for [T; N] {
+    fn put(&self, bytes: &mut Vec<u8>) {
+        self.iter().for_each(|one| one.put(bytes));
+    }
+}
+
+/// The fields in the order of the header. None can be left out.
+macro_rules! structs {
+    ($($name:ident { $($field:ident),* })*) => {
+        $(impl Put for $name {
+            fn put(&self, bytes: &mut Vec<u8>) {
+                let Self { $($field),* } = self;
+                $($field.put(bytes);)*
+            }
+        })*
+    };
+}
+
+structs! {
+    Score { major, minor }
+    Constraint { kind, left, target_case, target, extra_case, extra }
+    ConstraintList { count, entries }
+    InputData {
+        choosers, choices, slots, max_preference, mins, maxs, optional, scheduling, assignment,
+        groups, lengths, members
+    }
+    Scheduling { entries }
+    ScheduleState { schedule, covered, blocks }
+    CachedAssignment { there, greedy, schedule, plan }
+    Search {
+        asking, greedy, found, optimal, asks, level, start, low, high, schedule, plan, cached
+    }
+    BestAnswer { number, found, position, score }
+    NegationAnswer { number, kind, left, target_case, target, extra_case, extra }
+    StateAnswer { number, state }
+    SlotListAnswer { number, start, length }
+    ModelAnswer { number, edges, entries, groups, blocked }
+    RosterAnswer { number, length }
+    InChoiceAnswer { number, found }
+    ChoiceAnswer { number, choice }
+    SearchAnswer { number, level, index, search }
+    VerdictAnswer { number, holds }
+    ScoreAnswer { number, score }
+}
+
+/// How large a day is.
+#[derive(Debug, Clone, Copy, PartialEq, Eq, PartialOrd, Ord)]
+enum Size {
+    /// It has no seats.
+    Empty,
+    Usual,
+    /// It has as many choosers, choices and slots as there can be.
+    Full,
+}
+
+/// What tells the notes of one sort from others: the entry, the number of the
+/// answer, the size of the day, what else the answer is known by, and what the
+/// call is about, where that is one thing alone.
+type Sort = (Entry, u32, Size, bool, Option<u32>);
+
+/// A call with what it must give.
+#[derive(Debug, Clone)]
+pub struct Note {
+    sort: Sort,
+    bytes: Vec<u8>,
+}
+
+impl Note {
+    pub fn new(entry: Entry, number: u32) -> Self {
+        Self { sort: (entry, number, Size::Usual, false, None), bytes: vec![entry as u8] }
+    }
+
+    pub fn entry(&self) -> Entry {
+        self.sort.0
+    }
+
+    pub fn bytes(&self) -> &[u8] {
+        &self.bytes
+    }
+
+    pub fn day(mut self, day: &InputData) -> Self {
+        self.sort.2 = match (day.choosers, day.choices, day.slots) {
+            (0, _, _) | (_, _, 0) => Size::Empty,
+            (CHOOSERS, CHOICES, SLOTS) => Size::Full,
+            _ => Size::Usual,
+        };
+        self.put(day)
+    }
+
+    /// What else the answer is known by.
+    pub fn known_by(mut self, mark: bool) -> Self {
+        self.sort.3 = mark;
+        self
+    }
+
+    /// What the call is about. No matter to a refused one.
+    pub fn about(mut self, what: Option<u32>) -> Self {
+        self.sort.4 = what.filter(|_| self.sort.1 == 0);
+        self
+    }
+
+    pub fn put(mut self, one: &impl Put) -> Self {
+        one.put(&mut self.bytes);
+        self
+    }
+
+    /// A slice that is only read.
+    pub fn table<T: Element>(self, table: &[T]) -> Self {
+        self.slice(table, table)
+    }
+
+    /// A slice before the call and after it: whether it starts as the pattern of
+    /// the guard zones, its length and, if not, its elements; then how many
+    /// stretches of it are changed and, for each, its start, its length and its
+    /// elements.
+    pub fn slice<T: Element>(mut self, before: &[T], after: &[T]) -> Self {
+        let is_pattern = before.len() <= T::pattern().len()
+            && T::are_same(before, &T::pattern()[..before.len()]);
+        self = self.put(&is_pattern).put(&before.len());
+        if !is_pattern {
+            self.elements(before);
+        }
+        let stretches = stretches(before, after);
+        self = self.put(&stretches.len());
+        for (start, end) in stretches {
+            self = self.put(&start).put(&(end - start));
+            self.elements(&after[start..end]);
+        }
+        self
+    }
+
+    fn elements<T: Element>(&mut self, elements: &[T]) {
+        self.bytes.extend(elements.iter().flat_map(|element| element.bytes()));
+    }
+}
+
+/// Where two slices differ: starts and ends.
+fn stretches<T: Element>(before: &[T], after: &[T]) -> Vec<(usize, usize)> {
+    let mut stretches = Vec::<(usize, usize)>::new();
+    let differ = |place: &usize| !T::are_same(&before[*place..=*place], &after[*place..=*place]);
+    for place in (0..before.len()).filter(differ) {
+        match stretches.last_mut() {
+            Some((_, end)) if *end == place => *end += 1,
+            _ => stretches.push((place, place + 1)),
+        }
+    }
+    stretches
+}
+
+/// The notes that are kept, and how many there are of each sort.
+#[derive(Default)]
+struct Notes {
+    kept: Vec<Note>,
+    counts: BTreeMap<Sort, usize>,
+    /// The sorts of which the present case has left one.
+    in_case: BTreeSet<Sort>,
+}
+
+impl Notes {
+    /// Keeps a note unless there are enough of its sort. No case has two of them,
+    /// since those would be much alike.
+    fn add(&mut self, note: Note) {
+        let (_, number, size, _, about) = note.sort;
+        let most = match (number, size) {
+            (0, Size::Usual) if about.is_some() => 2,
+            (0, Size::Usual) => 7,
+            (0, _) if about.is_some() => 0,
+            (0, Size::Full) => 2,
+            (0, Size::Empty) => 1,
+            (_, Size::Usual) => 2,
+            _ => 0,
+        };
+        let count = self.counts.entry(note.sort).or_default();
+        if *count < most && self.in_case.insert(note.sort) {
+            *count += 1;
+            self.kept.push(note);
+        }
+    }
+}
+
+thread_local! {
+    static NOTES: RefCell<Option<Notes>> = const { RefCell::new(None) };
+}
+
+/// Leaves a note if notes are taken.
+pub fn note(make: impl FnOnce() -> Note) {
+    NOTES.with_borrow_mut(|notes| {
+        if let Some(notes) = notes {
+            notes.add(make());
+        }
+    });
+}
+
+/// From here on notes are of another case.
+pub fn start_case() {
+    NOTES.with_borrow_mut(|notes| {
+        if let Some(notes) = notes {
+            notes.in_case.clear();
+        }
+    });
+}
+
+/// The notes that are left while this runs, of each sort as many as are kept.
+pub fn taken(run: impl FnOnce()) -> Vec<Note> {
+    NOTES.set(Some(Notes::default()));
+    run();
+    NOTES.take().map_or(Vec::new(), |notes| notes.kept)
+}
