@@ -3,6 +3,7 @@
 use crate::damage::{Damage, Input};
 use crate::features::Features;
 use crate::random::Random;
+use crate::run::{Days, Outcome, Run};
 
 /// A call and the numbers that it is to give, 0 first.
 pub type Numbers = (&'static str, &'static [u32]);
@@ -23,6 +24,18 @@ pub fn features(damages: &[&Damage], calls: &[Numbers]) -> Features {
         }
     }
     features
+}
+
+/// A case for each day, which is told the damages that may be done to it.
+pub fn each_day(
+    run: &mut Run,
+    days: Days,
+    damages: &[&Damage],
+    calls: &[Numbers],
+    one_day: impl Fn(&mut Random, &[&Damage], &mut Features) -> Outcome,
+) {
+    let mut features = features(damages, calls);
+    run.each_day(days, &mut features, |random, features| one_day(random, damages, features));
 }
 
 /// The input with one or two damages. What should make no difference is done

@@ -47,9 +47,7 @@ pub fn run(run: &mut Run) {
     for change in TABLES {
         run.case(|random| one_length(random, change, [2, 2]));
     }
-    let damages = damage::of_models();
-    let mut features = refused::features(&damages, &NUMBERS);
-    run.each_day(DAYS, &mut features, |random, features| one_day(random, &damages, features));
+    refused::each_day(run, DAYS, &damage::of_models(), &NUMBERS, one_day);
 }
 
 /// The sample day with a wrong length: each call gives its number.

@@ -30,9 +30,7 @@ const NUMBERS: [Numbers; 2] = [
 ];
 
 pub fn run(run: &mut Run) {
-    let damages = damage::of_searches();
-    let mut features = refused::features(&damages, &NUMBERS);
-    run.each_day(DAYS, &mut features, |random, features| one_day(random, &damages, features));
+    refused::each_day(run, DAYS, &damage::of_searches(), &NUMBERS, one_day);
 }
 
 fn one_day(random: &mut Random, damages: &[&Damage], features: &mut Features) -> Outcome {

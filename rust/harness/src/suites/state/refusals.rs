@@ -28,9 +28,7 @@ const NUMBERS: [Numbers; 3] = [
 ];
 
 pub fn run(run: &mut Run) {
-    let damages = damage::of_states();
-    let mut features = refused::features(&damages, &NUMBERS);
-    run.each_day(DAYS, &mut features, |random, features| one_day(random, &damages, features));
+    refused::each_day(run, DAYS, &damage::of_states(), &NUMBERS, one_day);
 }
 
 fn one_day(random: &mut Random, damages: &[&Damage], features: &mut Features) -> Outcome {

@@ -29,9 +29,7 @@ const NUMBERS: [Numbers; 5] = [
 ];
 
 pub fn run(run: &mut Run) {
-    let damages = damage::of_verdicts();
-    let mut features = refused::features(&damages, &NUMBERS);
-    run.each_day(DAYS, &mut features, |random, features| one_day(random, &damages, features));
+    refused::each_day(run, DAYS, &damage::of_verdicts(), &NUMBERS, one_day);
 }
 
 fn one_day(random: &mut Random, damages: &[&Damage], features: &mut Features) -> Outcome {
