@@ -4,8 +4,10 @@
  *     ./replay tests/records.bin
  *
  * rust/harness/src/records/calls.rs writes the file and tells its form. Answers
- * are compared field by field; of every lent slice each byte is compared, and
- * those before and behind it. The last line is 'replay: N records, M failed'. */
+ * are compared field by field, states and searches byte by byte; of every lent
+ * slice each byte is compared, and those before and behind it. The last line is
+ * 'replay: N records, M failed'. */
+#include <stdbool.h>
 #include <stdio.h>
 #include <stdlib.h>
 #include <string.h>
@@ -13,10 +15,9 @@
 #include "cendravoka.h"
 
 _Static_assert(sizeof(size_t) == 8, "the file has 8 bytes for a size_t");
-_Static_assert(sizeof(cendravoka_constraint) == 24, "constraints are read without padding");
 
 /* Bytes on both sides of a slice, and the most slices of a call. */
-enum { ZONE = 256, SLICES = 13, SHOWN = 20 };
+enum { ZONE = 256, SLICES = 15, SHOWN = 20 };
 
 static FILE *file;
 static bool same;
@@ -82,11 +83,6 @@ static float get_float(void)
     return number;
 }
 
-static bool get_bool(void)
-{
-    return next_byte() != 0;
-}
-
 /* A lent slice, and what must stand in it and around it after the call. */
 typedef struct {
     unsigned char *cells;
@@ -127,7 +123,7 @@ static void get_changes(slice *own, size_t element)
 static slice *get_slice(size_t element)
 {
     slice *own = &slices[slices_used++];
-    bool is_pattern = get_bool();
+    bool is_pattern = next_byte() != 0;
     own->length = get_length();
     own->bytes = own->length * element;
     own->cells = malloc(own->bytes + 2 * ZONE);
@@ -153,8 +149,9 @@ static void check_slices(void)
     }
 }
 
-/* A slice as it is passed: the pointer and the count of elements. */
-#define PASS(own) (void *)((own)->cells + ZONE), (own)->length
+/* A slice as it is passed: the pointer, which is NULL where there is nothing to
+ * point at, and the count of elements. */
+#define PASS(own) ((own)->length > 0 ? (void *)((own)->cells + ZONE) : NULL), (own)->length
 
 /* The next field of the recorded answer must be the one that was given. */
 static void check(const void *given, size_t size)
@@ -167,80 +164,10 @@ static void check(const void *given, size_t size)
 
 #define CHECK(given) check(&(given), sizeof(given))
 
-static void get_list(cendravoka_constraint_list *list)
-{
-    GET(list->count);
-    GET(list->entries);
-}
-
-static cendravoka_input_data get_day(void)
-{
-    cendravoka_input_data day;
-    GET(day.choosers);
-    GET(day.choices);
-    GET(day.slots);
-    GET(day.max_preference);
-    GET(day.mins);
-    GET(day.maxs);
-    GET(day.optional);
-    get_list(&day.scheduling);
-    get_list(&day.assignment);
-    GET(day.groups);
-    GET(day.lengths);
-    GET(day.members);
-    return day;
-}
-
-static cendravoka_scheduling get_schedule(void)
-{
-    cendravoka_scheduling schedule;
-    GET(schedule.entries);
-    return schedule;
-}
-
-static cendravoka_schedule_state get_state(void)
-{
-    cendravoka_schedule_state state;
-    GET(state.schedule.entries);
-    GET(state.covered);
-    GET(state.blocks);
-    return state;
-}
-
-static cendravoka_cached_assignment get_cached(void)
-{
-    cendravoka_cached_assignment cached;
-    GET(cached.there);
-    GET(cached.greedy);
-    GET(cached.schedule.entries);
-    GET(cached.plan);
-    return cached;
-}
-
-static cendravoka_search get_search(void)
-{
-    cendravoka_search search;
-    GET(search.asking);
-    GET(search.greedy);
-    GET(search.found);
-    GET(search.optimal);
-    GET(search.asks);
-    GET(search.level);
-    GET(search.start);
-    GET(search.low);
-    GET(search.high);
-    GET(search.schedule.entries);
-    GET(search.plan);
-    search.cached = get_cached();
-    return search;
-}
-
 static void check_state(cendravoka_state_answer answer)
 {
     CHECK(answer.number);
-    CHECK(answer.state.schedule.entries);
-    CHECK(answer.state.covered);
-    CHECK(answer.state.blocks);
+    CHECK(answer.state);
 }
 
 static void check_model(cendravoka_model_answer answer)
@@ -258,31 +185,12 @@ static void check_roster(cendravoka_roster_answer answer)
     CHECK(answer.length);
 }
 
-static void check_cached(const cendravoka_cached_assignment *cached)
-{
-    CHECK(cached->there);
-    CHECK(cached->greedy);
-    CHECK(cached->schedule.entries);
-    CHECK(cached->plan);
-}
-
 static void check_search(cendravoka_search_answer answer)
 {
     CHECK(answer.number);
     CHECK(answer.level);
     CHECK(answer.index);
-    CHECK(answer.search.asking);
-    CHECK(answer.search.greedy);
-    CHECK(answer.search.found);
-    CHECK(answer.search.optimal);
-    CHECK(answer.search.asks);
-    CHECK(answer.search.level);
-    CHECK(answer.search.start);
-    CHECK(answer.search.low);
-    CHECK(answer.search.high);
-    CHECK(answer.search.schedule.entries);
-    CHECK(answer.search.plan);
-    check_cached(&answer.search.cached);
+    CHECK(answer.search);
 }
 
 static void check_verdict(cendravoka_verdict_answer answer)
@@ -297,7 +205,7 @@ static void check_score(cendravoka_score score)
     CHECK(score.minor);
 }
 
-static void check_bool(bool given)
+static void check_flag(uint8_t given)
 {
     CHECK(given);
 }
@@ -320,23 +228,23 @@ static void negation(void)
 
 static void is_valid(void)
 {
-    check_bool(cendravoka_is_valid(get_word()));
+    check_flag(cendravoka_is_valid(get_word()));
 }
 
 static void is_scheduling_constraint(void)
 {
-    check_bool(cendravoka_is_scheduling_constraint(get_word()));
+    check_flag(cendravoka_is_scheduling_constraint(get_word()));
 }
 
 static void is_assignment_constraint(void)
 {
-    check_bool(cendravoka_is_assignment_constraint(get_word()));
+    check_flag(cendravoka_is_assignment_constraint(get_word()));
 }
 
 static void is_finite(void)
 {
     float major = get_float(), minor = get_float();
-    check_bool(cendravoka_is_finite(major, minor));
+    check_flag(cendravoka_is_finite(major, minor));
 }
 
 static void compare(void)
@@ -370,27 +278,28 @@ static void greedy_major(void)
 
 static void build(void)
 {
-    cendravoka_input_data day = get_day();
-    cendravoka_scheduling schedule = get_schedule();
+    slice *day = get_slice(1);
+    slice *schedule = get_slice(1);
     slice *lists = get_slice(1);
-    check_state(cendravoka_build(day, schedule, PASS(lists)));
+    check_state(cendravoka_build(PASS(day), PASS(schedule), PASS(lists)));
 }
 
 static void update(void)
 {
-    cendravoka_input_data day = get_day();
-    cendravoka_schedule_state state = get_state();
-    cendravoka_scheduling schedule = get_schedule();
+    slice *day = get_slice(1);
+    slice *state = get_slice(1);
+    slice *schedule = get_slice(1);
     slice *lists = get_slice(1);
-    check_state(cendravoka_update(day, state, schedule, PASS(lists)));
+    check_state(cendravoka_update(PASS(day), PASS(state), PASS(schedule), PASS(lists)));
 }
 
 static void slot_list(void)
 {
-    cendravoka_input_data day = get_day();
-    cendravoka_schedule_state state = get_state();
+    slice *day = get_slice(1);
+    slice *state = get_slice(1);
     slice *lists = get_slice(1);
-    cendravoka_slot_list_answer answer = cendravoka_slot_list(day, state, PASS(lists), get_size());
+    cendravoka_slot_list_answer answer =
+        cendravoka_slot_list(PASS(day), PASS(state), PASS(lists), get_size());
     CHECK(answer.number);
     CHECK(answer.start);
     CHECK(answer.length);
@@ -423,22 +332,22 @@ static void get_buffers(model_slices *own)
 
 static void model(void)
 {
-    cendravoka_input_data day = get_day();
-    cendravoka_schedule_state state = get_state();
+    slice *day = get_slice(1);
+    slice *state = get_slice(1);
     uint32_t limit = get_word();
     model_slices own;
     get_tables(&own);
     get_buffers(&own);
-    check_model(cendravoka_model(day, state, limit, PASS(own.preferences), PASS(own.costs),
-                                 PASS(own.lists), PASS(own.supplies), PASS(own.from),
-                                 PASS(own.to), PASS(own.max), PASS(own.cost), PASS(own.entries),
-                                 PASS(own.ends), PASS(own.blocked)));
+    check_model(cendravoka_model(
+        PASS(day), PASS(state), limit, PASS(own.preferences), PASS(own.costs), PASS(own.lists),
+        PASS(own.supplies), PASS(own.from), PASS(own.to), PASS(own.max), PASS(own.cost),
+        PASS(own.entries), PASS(own.ends), PASS(own.blocked)));
 }
 
 static void check_values(void)
 {
-    cendravoka_input_data day = get_day();
-    cendravoka_schedule_state state = get_state();
+    slice *day = get_slice(1);
+    slice *state = get_slice(1);
     uint32_t limit = get_word();
     model_slices own;
     slice *values, *plan;
@@ -447,108 +356,113 @@ static void check_values(void)
     get_buffers(&own);
     plan = get_slice(1);
     check_model(cendravoka_check_values(
-        day, state, limit, PASS(own.preferences), PASS(own.costs), PASS(own.lists), PASS(values),
-        PASS(own.supplies), PASS(own.from), PASS(own.to), PASS(own.max), PASS(own.cost),
-        PASS(own.entries), PASS(own.ends), PASS(own.blocked), PASS(plan)));
+        PASS(day), PASS(state), limit, PASS(own.preferences), PASS(own.costs), PASS(own.lists),
+        PASS(values), PASS(own.supplies), PASS(own.from), PASS(own.to), PASS(own.max),
+        PASS(own.cost), PASS(own.entries), PASS(own.ends), PASS(own.blocked), PASS(plan)));
 }
 
 static void choosers_ordered(void)
 {
-    cendravoka_input_data day = get_day();
+    slice *day = get_slice(1);
     slice *plan = get_slice(1);
     size_t choice = get_size();
     slice *roster = get_slice(1);
-    check_roster(cendravoka_choosers_ordered(day, PASS(plan), choice, PASS(roster)));
+    check_roster(cendravoka_choosers_ordered(PASS(day), PASS(plan), choice, PASS(roster)));
 }
 
 static void choices_ordered(void)
 {
-    cendravoka_input_data day = get_day();
+    slice *day = get_slice(1);
     slice *plan = get_slice(1);
     size_t chooser = get_size();
     slice *roster = get_slice(1);
-    check_roster(cendravoka_choices_ordered(day, PASS(plan), chooser, PASS(roster)));
+    check_roster(cendravoka_choices_ordered(PASS(day), PASS(plan), chooser, PASS(roster)));
 }
 
 static void is_in_choice(void)
 {
-    cendravoka_input_data day = get_day();
+    slice *day = get_slice(1);
     slice *plan = get_slice(1);
     size_t chooser = get_size(), choice = get_size();
     cendravoka_in_choice_answer answer =
-        cendravoka_is_in_choice(day, PASS(plan), chooser, choice);
+        cendravoka_is_in_choice(PASS(day), PASS(plan), chooser, choice);
     CHECK(answer.number);
     CHECK(answer.found);
 }
 
 static void choice_of(void)
 {
-    cendravoka_input_data day = get_day();
+    slice *day = get_slice(1);
     slice *plan = get_slice(1);
     size_t chooser = get_size(), slot = get_size();
-    cendravoka_choice_answer answer = cendravoka_choice_of(day, PASS(plan), chooser, slot);
+    cendravoka_choice_answer answer = cendravoka_choice_of(PASS(day), PASS(plan), chooser, slot);
     CHECK(answer.number);
     CHECK(answer.choice);
 }
 
 static void begin(void)
 {
-    cendravoka_input_data day = get_day();
-    cendravoka_scheduling schedule = get_schedule();
+    slice *day = get_slice(1);
+    slice *schedule = get_slice(1);
     slice *levels = get_slice(4);
     uint32_t bound = get_word();
-    bool greedy = get_bool();
-    check_search(cendravoka_begin(day, schedule, PASS(levels), bound, greedy, get_cached()));
+    uint32_t greedy = get_word();
+    slice *cached = get_slice(1);
+    check_search(cendravoka_begin(PASS(day), PASS(schedule), PASS(levels), bound, greedy,
+                                  PASS(cached)));
 }
 
 static void tell(void)
 {
-    cendravoka_input_data day = get_day();
-    cendravoka_search search = get_search();
+    slice *day = get_slice(1);
+    slice *search = get_slice(1);
     slice *levels = get_slice(4);
     uint32_t result = get_word();
     slice *plan = get_slice(1);
-    check_search(cendravoka_tell(day, search, PASS(levels), result, PASS(plan)));
+    check_search(cendravoka_tell(PASS(day), PASS(search), PASS(levels), result, PASS(plan)));
 }
 
 static void satisfies_constraints_scheduling(void)
 {
-    cendravoka_input_data day = get_day();
-    check_verdict(cendravoka_satisfies_constraints_scheduling(day, get_schedule()));
+    slice *day = get_slice(1);
+    slice *schedule = get_slice(1);
+    check_verdict(cendravoka_satisfies_constraints_scheduling(PASS(day), PASS(schedule)));
 }
 
 static void schedule_is_feasible(void)
 {
-    cendravoka_input_data day = get_day();
-    check_verdict(cendravoka_schedule_is_feasible(day, get_schedule()));
+    slice *day = get_slice(1);
+    slice *schedule = get_slice(1);
+    check_verdict(cendravoka_schedule_is_feasible(PASS(day), PASS(schedule)));
 }
 
 static void satisfies_constraints_assignment(void)
 {
-    cendravoka_input_data day = get_day();
-    cendravoka_scheduling schedule = get_schedule();
+    slice *day = get_slice(1);
+    slice *schedule = get_slice(1);
     slice *plan = get_slice(1);
-    check_verdict(cendravoka_satisfies_constraints_assignment(day, schedule, PASS(plan)));
+    check_verdict(
+        cendravoka_satisfies_constraints_assignment(PASS(day), PASS(schedule), PASS(plan)));
 }
 
 static void is_feasible(void)
 {
-    cendravoka_input_data day = get_day();
-    cendravoka_scheduling schedule = get_schedule();
+    slice *day = get_slice(1);
+    slice *schedule = get_slice(1);
     slice *plan = get_slice(1);
-    check_verdict(cendravoka_is_feasible(day, schedule, PASS(plan)));
+    check_verdict(cendravoka_is_feasible(PASS(day), PASS(schedule), PASS(plan)));
 }
 
 static void evaluate(void)
 {
-    cendravoka_input_data day = get_day();
+    slice *day = get_slice(1);
     uint32_t solution = get_word();
-    cendravoka_scheduling schedule = get_schedule();
+    slice *schedule = get_slice(1);
     slice *plan = get_slice(1);
-    bool greedy = get_bool();
+    uint32_t greedy = get_word();
     slice *preferences = get_slice(4), *powers = get_slice(4);
     cendravoka_score_answer answer = cendravoka_evaluate(
-        day, solution, schedule, PASS(plan), greedy, PASS(preferences), PASS(powers));
+        PASS(day), solution, PASS(schedule), PASS(plan), greedy, PASS(preferences), PASS(powers));
     CHECK(answer.number);
     check_score(answer.score);
 }
@@ -603,7 +517,7 @@ static bool replay(size_t record, size_t failed)
 
 int main(int count, char **words)
 {
-    static const char magic[] = "CENDRAV1";
+    static const char magic[] = "CENDRAV2";
     char front[sizeof magic - 1];
     size_t records, failed = 0;
     if (count != 2)

@@ -6,12 +6,13 @@ use mathlib.Core.List.{List}
 use lib.Dec.{eqb, ltb, leb}
 use lib.ListN.{length}
 use Rattle.counting.specs.Written.{written}
+use Rattle.input_data.specs.Bytes.{dayOf, lentNumber}
 use Rattle.input_data.specs.Checks.{firstOf, dayNumber}
 use Rattle.input_data.specs.Lengths.{planLength, rosterLength}
 use Rattle.input_data.specs.declared.Limits.{Limits}
 use Rattle.input_data.specs.declared.InputData.{InputData}
 use Rattle.input_data.specs.declared.checks.Beside.{Beside}
-use Rattle.assignment.specs.Plan.{choiceOf, badPlan, isInChoice}
+use Rattle.assignment.specs.Plan.{choiceOf, badPlan, choosersOrdered, choicesOrdered, isInChoice}
 use Rattle.assignment.specs.declared.RosterAnswer.{RosterAnswer}
 use Rattle.assignment.specs.declared.InChoiceAnswer.{InChoiceAnswer}
 use Rattle.assignment.specs.declared.ChoiceAnswer.{ChoiceAnswer}
@@ -48,6 +49,22 @@ pub record RosterLeaves (n : ℕ) (list before after : List ℕ) (r : RosterAnsw
   pub gives : r ≡ cond (eqb n 0) (rosterAnswer 0 (length list)) (rosterAnswer n 0)
   pub leaves : after ≡ cond (eqb n 0) (written before 0 list) before
 
+-- choosers_ordered on a lent day
+abbrev pub ChoosersOrdered : Limits → List ℕ → List ℕ → ℕ → List ℕ → List ℕ → RosterAnswer → Type 0
+ChoosersOrdered l day plan k before after r =
+    RosterLeaves
+    (lentNumber l day false (choosersNumber l (dayOf day) plan k (length before)))
+    (choosersOrdered (dayOf day .choosers) (dayOf day .slots) plan k)
+    before after r
+
+-- choices_ordered on a lent day
+abbrev pub ChoicesOrdered : Limits → List ℕ → List ℕ → ℕ → List ℕ → List ℕ → RosterAnswer → Type 0
+ChoicesOrdered l day plan c before after r =
+    RosterLeaves
+    (lentNumber l day false (choicesNumber l (dayOf day) plan c (length before)))
+    (choicesOrdered (dayOf day .choices) (dayOf day .slots) plan c)
+    before after r
+
 -- ---- a chooser and a choice, a chooser and a slot
 
 abbrev pub inChoiceNumber : Limits → InputData → List ℕ → ℕ → ℕ → ℕ
@@ -56,11 +73,13 @@ inChoiceNumber l d plan c k = planNumber l d plan false (leb (d .choosers) c || 
 abbrev pub inChoice : ℕ → Bool → InChoiceAnswer
 inChoice n b = record { number = n; found = b }
 
-unfoldable pub inChoiceAnswer : Limits → InputData → List ℕ → ℕ → ℕ → InChoiceAnswer
-inChoiceAnswer l d plan c k =
-    cond (eqb (inChoiceNumber l d plan c k) 0)
-    (inChoice 0 (isInChoice (d .slots) plan c k))
-    (inChoice (inChoiceNumber l d plan c k) false)
+-- the answer of a call that gives number n
+abbrev pub inChoiceAnswer : ℕ → Bool → InChoiceAnswer
+inChoiceAnswer n b = cond (eqb n 0) (inChoice 0 b) (inChoice n false)
+
+-- is_in_choice on a lent day
+unfoldable pub inChoiceLent : Limits → List ℕ → List ℕ → ℕ → ℕ → InChoiceAnswer
+inChoiceLent l day plan c k = inChoiceAnswer (lentNumber l day false (inChoiceNumber l (dayOf day) plan c k)) (isInChoice (dayOf day .slots) plan c k)
 
 abbrev pub choiceNumber : Limits → InputData → List ℕ → ℕ → ℕ → ℕ
 choiceNumber l d plan c s = planNumber l d plan false (leb (d .choosers) c || leb (d .slots) s)
@@ -68,8 +87,9 @@ choiceNumber l d plan c s = planNumber l d plan false (leb (d .choosers) c || le
 abbrev pub choice : ℕ → ℕ → ChoiceAnswer
 choice n k = record { number = n; choice = k }
 
-unfoldable pub choiceAnswer : Limits → InputData → List ℕ → ℕ → ℕ → ChoiceAnswer
-choiceAnswer l d plan c s =
-    cond (eqb (choiceNumber l d plan c s) 0)
-    (choice 0 (choiceOf (d .slots) plan c s))
-    (choice (choiceNumber l d plan c s) 0)
+abbrev pub choiceAnswer : ℕ → ℕ → ChoiceAnswer
+choiceAnswer n k = cond (eqb n 0) (choice 0 k) (choice n 0)
+
+-- choice_of on a lent day
+unfoldable pub choiceLent : Limits → List ℕ → List ℕ → ℕ → ℕ → ChoiceAnswer
+choiceLent l day plan c s = choiceAnswer (lentNumber l day false (choiceNumber l (dayOf day) plan c s)) (choiceOf (dayOf day .slots) plan c s)

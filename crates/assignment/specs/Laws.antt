@@ -15,6 +15,8 @@ use Rattle.counting.specs.Sums.{sum-mono, sum-swap, sum-pick, sum-most}
 use Rattle.counting.specs.Tests.{bool-cases, or-split, eqb-sym}
 use Rattle.counting.specs.Written.{Put, one-buffer, put-none, written-one}
 use Rattle.input_data.specs.Accepted.{Accepted, accepted, past}
+use Rattle.input_data.specs.Bytes.{IsDay, dayOf, lentNumber}
+use Rattle.input_data.specs.BytesLaws.{lent-short, lent-is}
 use Rattle.input_data.specs.Checks.{firstOf, dayNumber}
 use Rattle.input_data.specs.Lengths.{Within, planLength, rosterLength}
 use Rattle.input_data.specs.declared.Limits.{Limits}
@@ -132,6 +134,13 @@ pub plan-number : (l : Limits) (d : InputData) (plan : List ℕ) (short asked : 
 unfolding planNumber
 plan-number l d plan short asked w e = plan-accepted l d plan short asked (firstOf (badPlan (d .choices) (seats d) plan) 13 0) w e
 
+-- and on a lent day, where the day has its length
+pub plan-lent : (l : Limits) (day plan : List ℕ) (short asked : Bool) → IsDay day → planNumber l (dayOf day) plan short asked ≡ lentNumber l day false (planNumber l (dayOf day) plan short asked)
+unfolding planNumber
+plan-lent l day plan short asked h =
+    let d = dayOf day in
+    sym (lent-is l day false (besidePlan l (length plan) short asked) (firstOf (badPlan (d .choices) (seats d) plan) 13 0) h refl)
+
 -- the row of a chooser of the day is in the plan
 pub chooser-row : (l : Limits) (d : InputData) (plan : List ℕ) (short asked : Bool) (c : ℕ) → Within l → PlanAccepted l d plan short asked → c < d .choosers → (c * d .slots + d .slots ≤ length plan) × (c * d .slots + d .slots ≤ 512)
 chooser-row l d plan short asked c w p h =
@@ -181,12 +190,19 @@ roster-refused {n = n} e d p =
     let f : eqb n 0 ≡ false = ne-eqb n 0 (λ z. d (e ∙ z)) in
     record { gives = p ∙ rw (f, e); leaves = rw f }
 
+-- the day has not its length
+pub roster-short : (l : Limits) (day : List ℕ) (n : ℕ) {list before : List ℕ} {r : RosterAnswer} → length day ≢ 2044 → r ≡ rosterAnswer 2 0 → RosterLeaves (lentNumber l day false n) list before before r
+roster-short l day n h p = roster-refused (lent-short l day false n h) (λ z. omega arith) p
+
 pub roster-done : {n at : ℕ} {list before after : List ℕ} {r : RosterAnswer} → n ≡ 0 → r ≡ rosterAnswer 0 at → Put (one-buffer ℕ) before 0 list after at → RosterLeaves n list before after r
 roster-done {list = list} {before = before} e p q = record { gives = p ∙ ap (rosterAnswer 0) (q .count ∙ zero-add (length list)) ∙ rw e; leaves = q .holds ∙ rw e }
 
 -- an answer by its number
 pub answer-refused : {A : Type 0} {n m : ℕ} {r : A} (done : A) (f : ℕ → A) → m ≡ n → m ≢ 0 → r ≡ f m → r ≡ cond (eqb n 0) done (f n)
 answer-refused {n = n} done f e d p = p ∙ ap f e ∙ rw (ne-eqb n 0 (λ z. d (e ∙ z)))
+
+pub answer-short : {A : Type 0} (l : Limits) (day : List ℕ) (n : ℕ) {r : A} (done : A) (f : ℕ → A) → length day ≢ 2044 → r ≡ f 2 → r ≡ cond (eqb (lentNumber l day false n) 0) done (f (lentNumber l day false n))
+answer-short l day n done f h p = answer-refused done f (lent-short l day false n h) (λ z. omega arith) p
 
 pub answer-done : {A : Type 0} {n : ℕ} {done r : A} (refused : A) → n ≡ 0 → r ≡ done → r ≡ cond (eqb n 0) done refused
 answer-done refused e p = p ∙ rw e

@@ -3,6 +3,7 @@ mod checks;
 mod rosters;
 mod seats;
 
+pub use checks::bad_if;
 pub use checks::bad_plan_for;
 pub use checks::kept_plan;
 pub use rosters::choices_ordered;

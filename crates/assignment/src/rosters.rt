@@ -1,23 +1,23 @@
 // Rosters: the choosers of a choice, the choices of a chooser.
 use crate::RosterAnswer;
 use crate::checks::plan_number;
-use input_data::InputData;
 use input_data::Limits;
 ghost use mathlib.Core.Path.{_≡_};
 ghost use mathlib.Core.List.{[], _∷_};
 ghost use Prim.Native.Nat.{_+_, _≤_};
 ghost use lib.ListN.{length};
 ghost use Rattle.counting.specs.Fold.{onlyIf};
+ghost use Rattle.counting.specs.Lent.{old, new};
 ghost use Rattle.counting.specs.Written.{Put, one-buffer};
 ghost use Rattle.input_data.specs.Lengths.{Within, fullDay};
 ghost use Rattle.assignment.specs.Plan.{row, choosersOrdered, choicesOrdered};
-ghost use Rattle.assignment.specs.Calls.{rosterAnswer, choosersNumber, choicesNumber, RosterLeaves};
+ghost use Rattle.assignment.specs.Calls.{rosterAnswer, ChoosersOrdered, ChoicesOrdered};
 ghost use Rattle.assignment.specs.Laws.{RowIn, ChoosersIn, ChoicesIn};
 
 // Stores a value where the test holds.
 fn put_if(test: bool, value: u8, roster: &mut [u8], at: usize) -> usize
     requires { ⌜ at + length (onlyIf test (value ∷ [])) ≤ length (now roster) ⌝ }
-    ensures { λ r. ⌜ Put (one-buffer _) (now (roster .entry)) at (onlyIf test (value ∷ [])) (now (roster .exit)) r ⌝ }
+    ensures { λ r. ⌜ Put (one-buffer _) (old roster) at (onlyIf test (value ∷ [])) (new roster) r ⌝ }
 {
     if test {
         roster[at] = value;
@@ -37,7 +37,7 @@ fn put_row(
     at: usize,
 ) -> usize
     requires { ⌜ RowIn slots (now plan) base choice value at (length (now roster)) ⌝ }
-    ensures { λ r. ⌜ Put (one-buffer _) (now (roster .entry)) at (row slots (now (plan .entry)) base choice value) (now (roster .exit)) r ⌝ }
+    ensures { λ r. ⌜ Put (one-buffer _) (old roster) at (row slots (old plan) base choice value) (new roster) r ⌝ }
 {
     let mut to = at;
     let mut s = 0;
@@ -57,7 +57,7 @@ fn put_choosers(
     roster: &mut [u8],
 ) -> usize
     requires { ⌜ ChoosersIn choosers slots (now plan) choice (length (now roster)) ⌝ }
-    ensures { λ r. ⌜ Put (one-buffer _) (now (roster .entry)) 0 (choosersOrdered choosers slots (now (plan .entry)) choice) (now (roster .exit)) r ⌝ }
+    ensures { λ r. ⌜ Put (one-buffer _) (old roster) 0 (choosersOrdered choosers slots (old plan) choice) (new roster) r ⌝ }
 {
     let mut at = 0;
     let mut c = 0;
@@ -77,7 +77,7 @@ fn put_choices(
     roster: &mut [u8],
 ) -> usize
     requires { ⌜ ChoicesIn choices slots (now plan) chooser (length (now roster)) ⌝ }
-    ensures { λ r. ⌜ Put (one-buffer _) (now (roster .entry)) 0 (choicesOrdered choices slots (now (plan .entry)) chooser) (now (roster .exit)) r ⌝ }
+    ensures { λ r. ⌜ Put (one-buffer _) (old roster) 0 (choicesOrdered choices slots (old plan) chooser) (new roster) r ⌝ }
 {
     let base = chooser * slots;
     let mut at = 0;
@@ -100,66 +100,66 @@ fn roster_answer(number: u32, length: usize) -> RosterAnswer
 
 fn choosers_within(
     limits: Limits,
-    day: InputData,
+    day: &[u8],
     plan: &[u8],
     choice: usize,
     roster: &mut [u8],
 ) -> RosterAnswer
     requires { ⌜ Within limits ⌝ }
-    ensures { λ r. ⌜ RosterLeaves (choosersNumber limits day (now (plan .entry)) choice (length (now (roster .entry)))) (choosersOrdered (day .choosers) (day .slots) (now (plan .entry)) choice) (now (roster .entry)) (now (roster .exit)) r ⌝ }
+    ensures { λ r. ⌜ ChoosersOrdered limits (old day) (old plan) choice (old roster) (new roster) r ⌝ }
 {
+    if day.len() != 2044 {
+        return roster_answer(2, 0);
+    }
     let short = roster.len() < limits.choosers * limits.slots;
-    let number = plan_number(limits, day, plan, short, day.choices <= choice);
+    let asked = input_data::choices(day) <= choice;
+    let number = plan_number(limits, day, plan, short, asked);
     if number != 0 {
         return roster_answer(number, 0);
     }
+    let choosers = input_data::choosers(day);
     roster_answer(
         0,
-        put_choosers(day.choosers, day.slots, plan, choice, roster),
+        put_choosers(choosers, input_data::slots(day), plan, choice, roster),
     )
 }
 
 // The choosers of a choice, each once for each slot in which it has the choice.
-pub fn choosers_ordered(
-    day: InputData,
-    plan: &[u8],
-    choice: usize,
-    roster: &mut [u8],
-) -> RosterAnswer
-    ensures { λ r. ⌜ RosterLeaves (choosersNumber fullDay day (now (plan .entry)) choice (length (now (roster .entry)))) (choosersOrdered (day .choosers) (day .slots) (now (plan .entry)) choice) (now (roster .entry)) (now (roster .exit)) r ⌝ }
+pub fn choosers_ordered(day: &[u8], plan: &[u8], choice: usize, roster: &mut [u8]) -> RosterAnswer
+    ensures { λ r. ⌜ ChoosersOrdered fullDay (old day) (old plan) choice (old roster) (new roster) r ⌝ }
 {
-    choosers_within(schedule_state::full_day(), day, plan, choice, roster)
+    choosers_within(input_data::full_day(), day, plan, choice, roster)
 }
 
 fn choices_within(
     limits: Limits,
-    day: InputData,
+    day: &[u8],
     plan: &[u8],
     chooser: usize,
     roster: &mut [u8],
 ) -> RosterAnswer
     requires { ⌜ Within limits ⌝ }
-    ensures { λ r. ⌜ RosterLeaves (choicesNumber limits day (now (plan .entry)) chooser (length (now (roster .entry)))) (choicesOrdered (day .choices) (day .slots) (now (plan .entry)) chooser) (now (roster .entry)) (now (roster .exit)) r ⌝ }
+    ensures { λ r. ⌜ ChoicesOrdered limits (old day) (old plan) chooser (old roster) (new roster) r ⌝ }
 {
+    if day.len() != 2044 {
+        return roster_answer(2, 0);
+    }
     let short = roster.len() < limits.choosers * limits.slots;
-    let number = plan_number(limits, day, plan, short, day.choosers <= chooser);
+    let asked = input_data::choosers(day) <= chooser;
+    let number = plan_number(limits, day, plan, short, asked);
     if number != 0 {
         return roster_answer(number, 0);
     }
+    let choices = input_data::choices(day);
     roster_answer(
         0,
-        put_choices(day.choices, day.slots, plan, chooser, roster),
+        put_choices(choices, input_data::slots(day), plan, chooser, roster),
     )
 }
 
 // The choices of a chooser in order, each once for each slot in which the chooser has it.
-pub fn choices_ordered(
-    day: InputData,
-    plan: &[u8],
-    chooser: usize,
-    roster: &mut [u8],
-) -> RosterAnswer
-    ensures { λ r. ⌜ RosterLeaves (choicesNumber fullDay day (now (plan .entry)) chooser (length (now (roster .entry)))) (choicesOrdered (day .choices) (day .slots) (now (plan .entry)) chooser) (now (roster .entry)) (now (roster .exit)) r ⌝ }
+pub fn choices_ordered(day: &[u8], plan: &[u8], chooser: usize, roster: &mut [u8]) -> RosterAnswer
+    ensures { λ r. ⌜ ChoicesOrdered fullDay (old day) (old plan) chooser (old roster) (new roster) r ⌝ }
 {
-    choices_within(schedule_state::full_day(), day, plan, chooser, roster)
+    choices_within(input_data::full_day(), day, plan, chooser, roster)
 }

@@ -6,14 +6,16 @@ use lib.Dec.{eqb, ltb, leb}
 use lib.ListN.{length}
 use Rattle.assignment.specs.Calls.{seats}
 use Rattle.assignment.specs.Plan.{badPlanFor}
+use Rattle.input_data.specs.Bytes.{dayOf, lentNumber}
 use Rattle.input_data.specs.Checks.{firstOf, dayNumber, badLevels}
 use Rattle.input_data.specs.Lengths.{planLength}
 use Rattle.input_data.specs.declared.Limits.{Limits}
 use Rattle.input_data.specs.declared.InputData.{InputData}
 use Rattle.input_data.specs.declared.checks.Beside.{Beside}
-use Rattle.schedule_state.specs.Calls.{outside}
+use Rattle.scheduling.specs.Handed.{scheduleOf, notSchedule, outside}
 use Rattle.scheduling.specs.declared.Scheduling.{Scheduling}
 use Rattle.assignment_solver.specs.Search.{Told, isFeasible}
+use Rattle.assignment_solver.specs.Bytes.{notCached, notSearch, cachedIn, searchIn}
 use Rattle.assignment_solver.specs.Steps.{refused, begunAnswer, toldAnswer}
 use Rattle.assignment_solver.specs.declared.CachedAssignment.{CachedAssignment}
 use Rattle.assignment_solver.specs.declared.Search.{Search}
@@ -54,9 +56,13 @@ spent s count = spentAt (s .asking) (s .greedy) (s .asks) (s .start) (s .low) (s
 abbrev pub wrongLength : Limits → Told → Bool
 wrongLength l t = isFeasible (t .result) && not (eqb (length (t .plan)) (planLength l))
 
--- 13 of the told plan, of the best so far and of what is remembered
+-- 13 of the told plan and of the best so far
+abbrev pub badPlans : InputData → Search → Told → Bool
+badPlans d s t = badIf d (isFeasible (t .result)) (s .schedule) (t .plan) || badIf d (s .found) (s .schedule) (s .plan)
+
+-- .. and of what is remembered
 abbrev pub badTold : InputData → Search → Told → Bool
-badTold d s t = badIf d (isFeasible (t .result)) (s .schedule) (t .plan) || badIf d (s .found) (s .schedule) (s .plan) || badCached d (s .cached)
+badTold d s t = badPlans d s t || badCached d (s .cached)
 
 -- 11, 13 and 18 of what a search holds and is told
 unfoldable pub heldNumber : InputData → Search → ℕ → Told → ℕ
@@ -76,3 +82,17 @@ beginAnswer l d sch levels bound greedy c = answerOf (beginNumber l d sch levels
 
 unfoldable pub tellAnswer : Limits → InputData → Search → List ℕ → Told → SearchAnswer
 tellAnswer l d s levels t = answerOf (tellNumber l d s levels t) (toldAnswer d s levels t)
+
+-- ---- on lent bytes
+
+abbrev pub beginLentNumber : Limits → List ℕ → List ℕ → List ℕ → List ℕ → ℕ
+beginLentNumber l day sch levels c = lentNumber l day (notSchedule sch || notCached c) (beginNumber l (dayOf day) (scheduleOf sch) levels (cachedIn c))
+
+unfoldable pub beginLent : Limits → List ℕ → List ℕ → List ℕ → ℕ → Bool → List ℕ → SearchAnswer
+beginLent l day sch levels bound greedy c = answerOf (beginLentNumber l day sch levels c) (begunAnswer (dayOf day) (scheduleOf sch) levels bound greedy (cachedIn c))
+
+abbrev pub tellLentNumber : Limits → List ℕ → List ℕ → List ℕ → Told → ℕ
+tellLentNumber l day s levels t = lentNumber l day (notSearch s) (tellNumber l (dayOf day) (searchIn s) levels t)
+
+unfoldable pub tellLent : Limits → List ℕ → List ℕ → List ℕ → Told → SearchAnswer
+tellLent l day s levels t = answerOf (tellLentNumber l day s levels t) (toldAnswer (dayOf day) (searchIn s) levels t)

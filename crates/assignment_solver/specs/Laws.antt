@@ -1,17 +1,30 @@
--- Laws of the steps: the start, the middle, what narrows a range. Assumes nothing.
+-- Laws of the steps: the start, the middle, what narrows a range; parts of lent bytes and their copies. Assumes nothing.
 use Prim.Native.Nat.{ℕ, _+_, _-_, _<_, _≤_}
-use mathlib.Core.Path.{_≡_, sym, _∙_}
-use mathlib.Core.Bool.{true, false}
+use mathlib.Core.Path.{_≡_, refl, sym, _∙_}
+use mathlib.Core.Bool.{Bool, true, false, _&&_}
 use mathlib.Core.List.{List}
 use mathlib.Core.Logic.{_≢_}
 use native.Mathlib.Omega.{arith}
-use lib.ListN.{length}
-use borrow.Author.Tests.{eqb-false}
+use lib.ListN.{length, take, drop, length-drop}
+use lib.Seq.{ext-getD, length-take-le}
+use borrow.Author.Tests.{eqb-false, lt-ltb, le-ltb}
+use Rattle.counting.specs.Lists.{Padded}
 use Rattle.counting.specs.Search.{firstTo, first-at, first-passes}
 use Rattle.counting.specs.Tests.{lt-cases, never, eq-cases}
-use Rattle.assignment_solver.specs.Search.{reaches, startOf, middle, endsAt, highAfter, isFeasible}
+use Rattle.assignment.specs.Calls.{seats}
+use Rattle.input_data.specs.declared.InputData.{InputData}
+use Rattle.scheduling.specs.Handed.{keptOf}
+use Rattle.scheduling.specs.Schedule.{entryAt}
+use Rattle.assignment_solver.specs.Search.{Told, reaches, startOf, middle, levelAt, ofResult, told, marked, learnt, endsAt, lowAfter, highAfter, isFeasible}
+use Rattle.assignment_solver.specs.Steps.{over, next, knownBy, askedAgain, toldRange}
+use Rattle.assignment_solver.specs.declared.CachedAssignment.{CachedAssignment}
+use Rattle.assignment_solver.specs.declared.Known.{Known}
 use Rattle.assignment_solver.specs.declared.LimitSolveResult.{LimitSolveResult}
 use Rattle.assignment_solver.specs.declared.LimitSolveResult.the-variants.{Feasible, Infeasible, Incomplete}
+use Rattle.assignment_solver.specs.declared.Search.{Search}
+
+abbrev pub isInfeasible : LimitSolveResult → Bool
+isInfeasible r = ofResult r false true false
 
 -- no level before i is at or above the bound
 pub record Below (levels : List ℕ) (bound i : ℕ) : Type 0 where
@@ -61,3 +74,41 @@ pub high-most : (high m n : ℕ) (r : LimitSolveResult) → high < n → m ≤ h
 high-most high m n Feasible h l = omega arith
 high-most high m n Infeasible h l = h
 high-most high m n Incomplete h l = h
+
+-- an answer that is not feasible: the best plan so far stays, and the range goes on above the middle
+pub record Stays (seats level : ℕ) (k : Known) (start low high m : ℕ) (r : LimitSolveResult) (plan : List ℕ) : Type 0 where
+  pub known : learnt seats level k (told r plan) ≡ marked k (isInfeasible r && k .optimal)
+  pub ends : endsAt start m r ≡ false
+  pub from : lowAfter low m r ≡ m + 1
+  pub to : highAfter high m r ≡ high
+
+pub stays : (seats level : ℕ) (k : Known) (start low high m : ℕ) (r : LimitSolveResult) (plan : List ℕ) → isFeasible r ≡ false → Stays seats level k start low high m r plan
+stays seats level k start low high m Feasible plan f = never f
+stays seats level k start low high m Infeasible plan f = record { known = refl; ends = refl; from = refl; to = refl }
+stays seats level k start low high m Incomplete plan f = record { known = refl; ends = refl; from = refl; to = refl }
+
+pub told-again : (d : InputData) (s : Search) (levels : List ℕ) (r : LimitSolveResult) (plan : List ℕ) → isFeasible r ≡ false → middle (s .low) (s .high) < s .high → askedAgain levels s (middle (s .low) (s .high) + 1) (s .high) (keptOf d (s .schedule)) (isInfeasible r && s .optimal) ≡ toldRange d s levels (told r plan)
+unfolding next
+told-again d s levels r plan f h =
+    let m = middle (s .low) (s .high) in
+    let q = stays (seats d) (levelAt levels m) (knownBy s) (s .start) (s .low) (s .high) m r plan f in
+    rw (q .ends, q .known, q .from, q .to, le-ltb (s .high) (m + 1) (omega arith))
+
+-- an answer at the middle ends the search, or narrows its range; the parts as the code has them
+module _ (d : InputData) (s : Search) (levels : List ℕ) (t : Told) {asks start low high m : ℕ} {sch : List ℕ} {k : Known} {c : CachedAssignment} (p₁ : asks ≡ s .asks) (p₂ : start ≡ s .start) (p₃ : low ≡ s .low) (p₄ : high ≡ s .high) (p₅ : m ≡ middle (s .low) (s .high)) (p₆ : sch ≡ keptOf d (s .schedule)) (p₇ : k ≡ learnt (seats d) (levelAt levels m) (knownBy s) t) (p₈ : c ≡ s .cached) where
+  pub told-over : endsAt start m (t .result) ≡ true → over false asks start low high sch k c ≡ toldRange d s levels t
+  told-over e =
+      let f : endsAt (s .start) (middle (s .low) (s .high)) (t .result) ≡ true = rw (p₂, p₅) at e in
+      rw f (rw (p₁, p₂, p₃, p₄, p₆, p₇, p₈, p₅))
+
+  pub told-next : endsAt start m (t .result) ≡ false → next levels asks start (lowAfter low m (t .result)) (highAfter high m (t .result)) sch k c ≡ toldRange d s levels t
+  told-next e =
+      let f : endsAt (s .start) (middle (s .low) (s .high)) (t .result) ≡ false = rw (p₂, p₅) at e in
+      rw f (rw (p₁, p₂, p₃, p₄, p₆, p₇, p₈, p₅))
+
+-- a part of lent bytes, and an array filled with bytes
+pub part-long : (at n : ℕ) (b : List ℕ) → at + n ≤ length b → length (take n (drop at b)) ≡ n
+part-long at n b h = length-take-le n (drop at b) (omega (arith, length-drop at b))
+
+pub copied : {n i : ℕ} {l : List ℕ} (b : List ℕ) → length b ≡ n → i ≡ n → Padded (entryAt b) n i l → l ≡ b
+copied {i = i} {l = l} b h e p = ext-getD 0 l b (p .long ∙ sym h) (λ k g. p .at k ∙ rw (lt-ltb k i (omega (arith, p .long))))

@@ -1,6 +1,6 @@
 -- What accepted input satisfies, and the numbers as the code comes to them. Assumes nothing.
 use Prim.Native.Nat.{ℕ, _<_, _≤_}
-use mathlib.Core.Path.{_≡_, sym, _∙_}
+use mathlib.Core.Path.{_≡_, sym, ap, _∙_}
 use mathlib.Core.Bool.{Bool, true, false, not, _&&_, _||_}
 use mathlib.Core.List.{List}
 use mathlib.Core.Logic.{_≢_}
@@ -9,19 +9,22 @@ use native.Mathlib.Omega.{arith}
 use lib.Dec.{eqb, ltb, leb}
 use lib.ListN.{length}
 use borrow.Author.Tests.{eqb-true, ne-eqb, ltb-false, leb-false, not-false}
-use Rattle.counting.specs.Tests.{or-split}
+use Rattle.counting.specs.Tests.{bool-cases, or-split}
 use Rattle.input_data.specs.Accepted.{accepted, past, first-zero}
-use Rattle.input_data.specs.Checks.{dayNumber, badLevels}
+use Rattle.input_data.specs.Bytes.{notLong, IsDay, dayOf, wider}
+use Rattle.input_data.specs.BytesLaws.{lent-short, lent-number, Lent, lent-zero}
+use Rattle.input_data.specs.Checks.{firstOf, dayNumber, badLevels}
 use Rattle.input_data.specs.Lengths.{Within, planLength}
 use Rattle.input_data.specs.declared.Limits.{Limits}
 use Rattle.input_data.specs.declared.InputData.{InputData}
 use Rattle.scheduling.specs.declared.Scheduling.{Scheduling}
-use Rattle.schedule_state.specs.Calls.{outside}
+use Rattle.scheduling.specs.Handed.{scheduleOf, notSchedule, outside}
 use Rattle.assignment.specs.Calls.{seats}
 use Rattle.assignment.specs.Laws.{Small, small}
 use Rattle.assignment_solver.specs.Search.{Told, told, isFeasible}
+use Rattle.assignment_solver.specs.Bytes.{IsCached, IsSearch, notCached, notSearch, cachedIn, searchIn}
 use Rattle.assignment_solver.specs.Steps.{refused, begunAnswer, toldAnswer}
-use Rattle.assignment_solver.specs.Calls.{besideLevels, wrongLength, outsideCached, beginNumber, badRange, spentAt, spent, badTold, heldNumber, tellNumber, answerOf, beginAnswer, tellAnswer}
+use Rattle.assignment_solver.specs.Calls.{besideLevels, wrongLength, outsideCached, beginNumber, badRange, spentAt, spent, badCached, badTold, heldNumber, tellNumber, answerOf, beginLentNumber, beginLent, tellLentNumber, tellLent}
 use Rattle.assignment_solver.specs.declared.CachedAssignment.{CachedAssignment}
 use Rattle.assignment_solver.specs.declared.LimitSolveResult.{LimitSolveResult}
 use Rattle.assignment_solver.specs.declared.Search.{Search}
@@ -122,20 +125,108 @@ answer-refused n done e d p = p ∙ rw (ne-eqb n 0 (λ z. d (e ∙ z)), e)
 answer-done : (n : ℕ) (done : SearchAnswer) {m : ℕ} {r : SearchAnswer} → m ≡ n → m ≡ 0 → r ≡ done → r ≡ answerOf n done
 answer-done n done e z p = let q : n ≡ 0 = sym e ∙ z in p ∙ rw q
 
-module _ (l : Limits) (d : InputData) (sch : Scheduling) (levels : List ℕ) (bound : ℕ) (greedy : Bool) (c : CachedAssignment) {m : ℕ} {r : SearchAnswer} (e : m ≡ beginNumber l d sch levels c) where
-  pub begin-refused : m ≢ 0 → r ≡ refused m → r ≡ beginAnswer l d sch levels bound greedy c
-  unfolding beginAnswer
-  begin-refused n p = answer-refused (beginNumber l d sch levels c) (begunAnswer d sch levels bound greedy c) e n p
+-- ---- lent bytes
 
-  pub begin-done : m ≡ 0 → r ≡ begunAnswer d sch levels bound greedy c → r ≡ beginAnswer l d sch levels bound greedy c
-  unfolding beginAnswer
-  begin-done z p = answer-done (beginNumber l d sch levels c) (begunAnswer d sch levels bound greedy c) e z p
+is-long : (n : ℕ) (b : List ℕ) → notLong n b ≡ false → length b ≡ n
+is-long n b e = eqb-true (length b) n (not-false _ e)
 
-module _ (l : Limits) (d : InputData) (s : Search) (levels : List ℕ) (t : Told) {m : ℕ} {r : SearchAnswer} (e : m ≡ tellNumber l d s levels t) where
-  pub tell-refused : m ≢ 0 → r ≡ refused m → r ≡ tellAnswer l d s levels t
-  unfolding tellAnswer
-  tell-refused n p = answer-refused (tellNumber l d s levels t) (toldAnswer d s levels t) e n p
+-- what begin works with, as it is lent
+pub record Opening (day sch levels c : List ℕ) : Type 0 where
+  pub day-long : IsDay day
+  pub schedule : length sch ≡ 32
+  pub cached : IsCached c
+  pub beginning : Beginning (dayOf day) levels
 
-  pub tell-done : m ≡ 0 → r ≡ toldAnswer d s levels t → r ≡ tellAnswer l d s levels t
-  unfolding tellAnswer
-  tell-done z p = answer-done (tellNumber l d s levels t) (toldAnswer d s levels t) e z p
+-- what tell works with, as it is lent
+pub record Telling (day s : List ℕ) (r : LimitSolveResult) (plan : List ℕ) : Type 0 where
+  pub day-long : IsDay day
+  pub search : IsSearch s
+  pub holding : Holding (dayOf day) r plan
+
+wide : (d : InputData) (levels : List ℕ) (wrong : Bool) → besideLevels d levels wrong ≡ wider wrong (besideLevels d levels false)
+wide d levels wrong = bool-cases wrong (λ e. rw e) (λ e. rw e)
+
+module _ (l : Limits) (day sch levels c : List ℕ) where
+  abbrev d : InputData
+  d = dayOf day
+
+  abbrev wrong : Bool
+  wrong = notSchedule sch || notCached c
+
+  abbrev late : ℕ
+  late = firstOf (outside d (scheduleOf sch) || outsideCached d (cachedIn c)) 11 (firstOf (badCached d (cachedIn c)) 13 0)
+
+  -- the number as the code comes to it
+  pub begin-number : IsDay day → dayNumber l d (besideLevels d levels wrong) late ≡ beginLentNumber l day sch levels c
+  unfolding beginNumber
+  begin-number h = ap (λ b. dayNumber l d b late) (wide d levels wrong) ∙ lent-number l day wrong (besideLevels d levels false) late h
+
+  begin-long : wrong ≡ false → (length sch ≡ 32) × IsCached c
+  begin-long e = let q : (notSchedule sch ≡ false) × (notCached c ≡ false) = or-split e in (is-long 32 sch (q .0), is-long 546 c (q .1))
+
+  pub begin-passed : IsDay day → Within l → dayNumber l d (besideLevels d levels wrong) 0 ≡ 0 → Opening day sch levels c
+  begin-passed h w e =
+      let g = begin-long (past l d (besideLevels d levels wrong) 0 e .lengths) in
+      record { day-long = h; schedule = g .0; cached = g .1; beginning = record { small = day-small l d levels wrong 0 w e; few = day-few l d levels wrong 0 w e } }
+
+  pub begin-opening : Within l → beginLentNumber l day sch levels c ≡ 0 → Opening day sch levels c
+  begin-opening w e =
+      let z : Lent day wrong _ = lent-zero l day wrong _ e in
+      let g = begin-long (z .right) in
+      record { day-long = z .day; schedule = g .0; cached = g .1; beginning = begin-accepted l d (scheduleOf sch) levels (cachedIn c) w (z .zero) }
+
+  module _ (bound : ℕ) (greedy : Bool) where
+    abbrev begun : SearchAnswer
+    begun = begunAnswer d (scheduleOf sch) levels bound greedy (cachedIn c)
+
+    pub begin-short : {r : SearchAnswer} → length day ≢ 2044 → r ≡ refused 2 → r ≡ beginLent l day sch levels bound greedy c
+    unfolding beginLent
+    begin-short h p = answer-refused (beginLentNumber l day sch levels c) begun (lent-short l day wrong _ h) (λ z. omega arith) p
+
+    pub begin-refused : {m : ℕ} {r : SearchAnswer} → m ≡ beginLentNumber l day sch levels c → m ≢ 0 → r ≡ refused m → r ≡ beginLent l day sch levels bound greedy c
+    unfolding beginLent
+    begin-refused e n p = answer-refused (beginLentNumber l day sch levels c) begun e n p
+
+    pub begin-done : {m : ℕ} {r : SearchAnswer} → m ≡ beginLentNumber l day sch levels c → m ≡ 0 → r ≡ begun → r ≡ beginLent l day sch levels bound greedy c
+    unfolding beginLent
+    begin-done e z p = answer-done (beginLentNumber l day sch levels c) begun e z p
+
+module _ (l : Limits) (day s levels : List ℕ) (r : LimitSolveResult) (plan : List ℕ) where
+  abbrev t : Told
+  t = told r plan
+
+  abbrev tell-wrong : Bool
+  tell-wrong = notSearch s || wrongLength l t
+
+  pub tell-number : IsDay day → dayNumber l (dayOf day) (besideLevels (dayOf day) levels tell-wrong) (heldNumber (dayOf day) (searchIn s) (length levels) t) ≡ tellLentNumber l day s levels t
+  unfolding tellNumber
+  tell-number h = lent-number l day (notSearch s) (besideLevels (dayOf day) levels (wrongLength l t)) (heldNumber (dayOf day) (searchIn s) (length levels) t) h
+
+  pub tell-passed : IsDay day → Within l → dayNumber l (dayOf day) (besideLevels (dayOf day) levels tell-wrong) 0 ≡ 0 → Telling day s r plan
+  tell-passed h w e =
+      let q : (notSearch s ≡ false) × (wrongLength l t ≡ false) = or-split (past l (dayOf day) (besideLevels (dayOf day) levels tell-wrong) 0 e .lengths) in
+      let f : dayNumber l (dayOf day) (besideLevels (dayOf day) levels (wrongLength l t)) 0 ≡ 0 = rw (q .0) at e in
+      record { day-long = h; search = is-long 1114 s (q .0); holding = day-holding l (dayOf day) levels r plan 0 w f }
+
+  pub tell-lent : tellLentNumber l day s levels t ≡ 0 → Lent day (notSearch s) (tellNumber l (dayOf day) (searchIn s) levels t)
+  tell-lent e = lent-zero l day (notSearch s) _ e
+
+  pub tell-telling : Within l → tellLentNumber l day s levels t ≡ 0 → Telling day s r plan
+  tell-telling w e =
+      let z = tell-lent e in
+      record { day-long = z .day; search = is-long 1114 s (z .right); holding = tell-accepted l (dayOf day) (searchIn s) levels r plan w (z .zero) .holding }
+
+  pub tell-range : Within l → tellLentNumber l day s levels t ≡ 0 → searchIn s .greedy ≡ false → Ranged (searchIn s) levels
+  tell-range w e = tell-accepted l (dayOf day) (searchIn s) levels r plan w (tell-lent e .zero) .range
+
+  pub tell-short : {a : SearchAnswer} → length day ≢ 2044 → a ≡ refused 2 → a ≡ tellLent l day s levels t
+  unfolding tellLent
+  tell-short h p = answer-refused (tellLentNumber l day s levels t) (toldAnswer (dayOf day) (searchIn s) levels t) (lent-short l day (notSearch s) _ h) (λ z. omega arith) p
+
+  pub tell-refused : {m : ℕ} {a : SearchAnswer} → m ≡ tellLentNumber l day s levels t → m ≢ 0 → a ≡ refused m → a ≡ tellLent l day s levels t
+  unfolding tellLent
+  tell-refused e n p = answer-refused (tellLentNumber l day s levels t) (toldAnswer (dayOf day) (searchIn s) levels t) e n p
+
+  pub tell-done : {m : ℕ} {a : SearchAnswer} → m ≡ tellLentNumber l day s levels t → m ≡ 0 → a ≡ toldAnswer (dayOf day) (searchIn s) levels t → a ≡ tellLent l day s levels t
+  unfolding tellLent
+  tell-done e z p = answer-done (tellLentNumber l day s levels t) (toldAnswer (dayOf day) (searchIn s) levels t) e z p

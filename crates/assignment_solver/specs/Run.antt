@@ -11,8 +11,9 @@ use Rattle.counting.specs.Fold.{onlyIf}
 use Rattle.input_data.specs.declared.Limits.{Limits}
 use Rattle.input_data.specs.declared.InputData.{InputData}
 use Rattle.scheduling.specs.declared.Scheduling.{Scheduling}
+use Rattle.scheduling.specs.Handed.{keptOf}
 use Rattle.assignment_solver.specs.Search.{Told, Ask, Outcome, isFeasible, askAt, ended, searched}
-use Rattle.assignment_solver.specs.Steps.{knownBy, scheduleOf, remembers, recalled, remembered}
+use Rattle.assignment_solver.specs.Steps.{knownBy, remembers, recalled, remembered}
 use Rattle.assignment_solver.specs.Calls.{wrongLength, tellAnswer}
 use Rattle.assignment_solver.specs.declared.CachedAssignment.{CachedAssignment}
 use Rattle.assignment_solver.specs.declared.SearchAnswer.{SearchAnswer}
@@ -57,7 +58,7 @@ counted l d sch (t ∷ ts) = cond (counts l d sch t) (t ∷ counted l d sch ts) 
 -- an equal remembered schedule answers at once; otherwise the search is made
 abbrev pub outcome : InputData → Scheduling → List ℕ → ℕ → Bool → CachedAssignment → List Told → Outcome
 outcome d sch levels bound greedy c ts =
-    cond (remembers (d .choices) (scheduleOf d sch) greedy c) (ended (recalled d c)) (searched greedy levels bound (d .«max_preference») (seats d) ts)
+    cond (remembers (d .choices) (keptOf d sch) greedy c) (ended (recalled d c)) (searched greedy levels bound (d .«max_preference») (seats d) ts)
 
 -- at its end a search remembers, unless it was answered from what is remembered
 abbrev pub memory : Bool → List ℕ → Bool → Outcome → CachedAssignment → CachedAssignment
@@ -75,7 +76,7 @@ pub record IsSearch (o : Outcome) (kept : CachedAssignment) (asks : List Ask) (a
 -- begun with number 0, and told any answers
 pub record RunIsSearch (l : Limits) (d : InputData) (sch : Scheduling) (levels : List ℕ) (bound : ℕ) (greedy : Bool) (c : CachedAssignment) (a : SearchAnswer) (ts : List Told) : Type 0 where
   pub is : IsSearch
-      (outcome d sch levels bound greedy c (counted l d (scheduleOf d sch) ts))
-      (memory (remembers (d .choices) (scheduleOf d sch) greedy c) (scheduleOf d sch) greedy (outcome d sch levels bound greedy c (counted l d (scheduleOf d sch) ts)) c)
+      (outcome d sch levels bound greedy c (counted l d (keptOf d sch) ts))
+      (memory (remembers (d .choices) (keptOf d sch) greedy c) (keptOf d sch) greedy (outcome d sch levels bound greedy c (counted l d (keptOf d sch) ts)) c)
       (asksOf l d levels a ts)
       (run l d levels a ts)

@@ -7,9 +7,10 @@ use lib.ListN.{length, replicate}
 use Rattle.assignment.specs.Calls.{seats}
 use Rattle.counting.specs.Tests.{someBelow}
 use Rattle.input_data.specs.declared.InputData.{InputData}
-use Rattle.scheduling.specs.Schedule.{entryAt, kept}
+use Rattle.scheduling.specs.Handed.{keptOf}
+use Rattle.scheduling.specs.Schedule.{entryAt}
 use Rattle.scheduling.specs.declared.Scheduling.{Scheduling}
-use Rattle.assignment_solver.specs.Search.{Told, known, nothing, foundAt, learnt, learntGreedy, levelAt, startOf, middle, endsAt, lowAfter, highAfter}
+use Rattle.assignment_solver.specs.Search.{Told, known, nothing, marked, foundAt, learnt, learntGreedy, levelAt, startOf, middle, endsAt, lowAfter, highAfter}
 use Rattle.assignment_solver.specs.declared.CachedAssignment.{CachedAssignment}
 use Rattle.assignment_solver.specs.declared.Known.{Known}
 use Rattle.assignment_solver.specs.declared.Search.{Search}
@@ -78,10 +79,6 @@ next levels asks start low high sch k c =
     cond (ltb high low) (over false asks start low high sch k c)
     (answer (levelAt levels (middle low high)) (middle low high) (searchWith true false (asks + 1) start low high sch k c))
 
--- the schedule as it is handed back
-abbrev pub scheduleOf : InputData → Scheduling → List ℕ
-scheduleOf d sch = kept (d .choices) (sch .entries)
-
 -- the answer of a memory: optimal, without an ask and without a level
 abbrev pub recalled : InputData → CachedAssignment → Known
 recalled d c = foundAt (seats d) 0 (c .plan) true
@@ -93,23 +90,27 @@ begunLevels levels bound sch c =
 
 unfoldable pub begunAnswer : InputData → Scheduling → List ℕ → ℕ → Bool → CachedAssignment → SearchAnswer
 begunAnswer d sch levels bound greedy c =
-    cond (remembers (d .choices) (scheduleOf d sch) greedy c)
-    (answer 0 0 (searchWith false greedy 0 0 0 0 (scheduleOf d sch) (recalled d c) c))
-    (cond greedy (answer (d .«max_preference») 0 (searchWith true true 1 0 0 0 (scheduleOf d sch) nothing c))
-    (begunLevels levels bound (scheduleOf d sch) c))
+    cond (remembers (d .choices) (keptOf d sch) greedy c)
+    (answer 0 0 (searchWith false greedy 0 0 0 0 (keptOf d sch) (recalled d c) c))
+    (cond greedy (answer (d .«max_preference») 0 (searchWith true true 1 0 0 0 (keptOf d sch) nothing c))
+    (begunLevels levels bound (keptOf d sch) c))
 
 -- what a search knows
 abbrev pub knownBy : Search → Known
 knownBy s = known (s .found) (s .level) (s .plan) (s .optimal)
 
+-- the next ask of a range, where the best plan so far stays
+abbrev pub askedAgain : List ℕ → Search → ℕ → ℕ → List ℕ → Bool → SearchAnswer
+askedAgain levels s low high sch mark = answer (levelAt levels (middle low high)) (middle low high) (searchWith true false (s .asks + 1) (s .start) low high sch (marked (knownBy s) mark) (s .cached))
+
 abbrev pub toldRange : InputData → Search → List ℕ → Told → SearchAnswer
 toldRange d s levels t =
     cond (endsAt (s .start) (middle (s .low) (s .high)) (t .result))
-    (over false (s .asks) (s .start) (s .low) (s .high) (scheduleOf d (s .schedule)) (learnt (seats d) (levelAt levels (middle (s .low) (s .high))) (knownBy s) t) (s .cached))
-    (next levels (s .asks) (s .start) (lowAfter (s .low) (middle (s .low) (s .high)) (t .result)) (highAfter (s .high) (middle (s .low) (s .high)) (t .result)) (scheduleOf d (s .schedule)) (learnt (seats d) (levelAt levels (middle (s .low) (s .high))) (knownBy s) t) (s .cached))
+    (over false (s .asks) (s .start) (s .low) (s .high) (keptOf d (s .schedule)) (learnt (seats d) (levelAt levels (middle (s .low) (s .high))) (knownBy s) t) (s .cached))
+    (next levels (s .asks) (s .start) (lowAfter (s .low) (middle (s .low) (s .high)) (t .result)) (highAfter (s .high) (middle (s .low) (s .high)) (t .result)) (keptOf d (s .schedule)) (learnt (seats d) (levelAt levels (middle (s .low) (s .high))) (knownBy s) t) (s .cached))
 
 abbrev pub toldGreedy : InputData → Search → Told → SearchAnswer
-toldGreedy d s t = over true (s .asks) 0 0 0 (scheduleOf d (s .schedule)) (learntGreedy (seats d) (d .«max_preference») t) (s .cached)
+toldGreedy d s t = over true (s .asks) 0 0 0 (keptOf d (s .schedule)) (learntGreedy (seats d) (d .«max_preference») t) (s .cached)
 
 unfoldable pub toldAnswer : InputData → Search → List ℕ → Told → SearchAnswer
 toldAnswer d s levels t = cond (s .greedy) (toldGreedy d s t) (toldRange d s levels t)

@@ -19,11 +19,11 @@ use Rattle.input_data.specs.declared.Limits.{Limits}
 use Rattle.input_data.specs.declared.InputData.{InputData}
 use Rattle.scheduling.specs.Schedule.{entryAt, kept, kept-at, kept-twice, badEntryAt, badSlots}
 use Rattle.scheduling.specs.declared.Scheduling.{Scheduling}
-use Rattle.schedule_state.specs.Calls.{outside}
+use Rattle.scheduling.specs.Handed.{outside, keptOf}
 use Rattle.assignment.specs.Calls.{seats}
 use Rattle.assignment.specs.Plan.{keptPlan, keptSeat, badPlanFor, unseated}
 use Rattle.assignment_solver.specs.Search.{Told, told, Ask, Outcome, known, nothing, isFeasible, foundAt, learnt, learntGreedy, askAt, ended, waiting, asked, levelAt, startOf, middle, endsAt, lowAfter, highAfter, searchFrom, searchLevels, searchGreedy}
-use Rattle.assignment_solver.specs.Steps.{searchWith, answer, refused, scheduleOf, remembers, recalled, remembered, over, next, begunLevels, begunAnswer, knownBy, toldAnswer}
+use Rattle.assignment_solver.specs.Steps.{searchWith, answer, refused, remembers, recalled, remembered, over, next, begunLevels, begunAnswer, knownBy, toldAnswer}
 use Rattle.assignment_solver.specs.Calls.{besideLevels, wrongLength, badIf, outsideCached, badCached, beginNumber, beginAnswer, spentAt, spent, badTold, heldNumber, tellNumber, tellAnswer}
 use Rattle.assignment_solver.specs.Laws.{middle-least, middle-most, above-start}
 use Rattle.assignment_solver.specs.Numbers.{day-small, day-few}
@@ -340,7 +340,7 @@ module _ {l : Limits} {d : InputData} {levels sch : List ℕ} {c : CachedAssignm
 -- ---- a search that was begun
 
 module _ (l : Limits) (d : InputData) (sch : Scheduling) (levels : List ℕ) (bound : ℕ) (greedy : Bool) (c : CachedAssignment) (w : Within l) (e : beginNumber l d sch levels c ≡ 0) where
-  standing : Standing l d levels (scheduleOf d sch) c
+  standing : Standing l d levels (keptOf d sch) c
   unfolding beginNumber
   standing =
       let rest = firstOf (outside d sch || outsideCached d c) 11 (firstOf (badCached d c) 13 0) in
@@ -352,18 +352,18 @@ module _ (l : Limits) (d : InputData) (sch : Scheduling) (levels : List ℕ) (bo
       record {
         within = w;
         day = number-past l d (besideLevels d levels false) rest 0 e;
-        inside = each-below 32 (d .choices) (badEntryAt (d .slots) (scheduleOf d sch)) (λ k h. ap (λ x. ltb (d .slots) x) (kept-at (d .choices) (sch .entries) k h (s .choices)) ∙ below-each 32 (d .choices) (badEntryAt (d .slots) (sch .entries)) (s .choices) (u .0) k h);
+        inside = each-below 32 (d .choices) (badEntryAt (d .slots) (keptOf d sch)) (λ k h. ap (λ x. ltb (d .slots) x) (kept-at (d .choices) (sch .entries) k h (s .choices)) ∙ below-each 32 (d .choices) (badEntryAt (d .slots) (sch .entries)) (s .choices) (u .0) k h);
         same = kept-twice (d .choices) (sch .entries);
         cached-inside = u .1;
         cached-good = r .0;
       }
 
-  begun-makes : (ts : List Told) → Makes 0 (outcome d sch levels bound greedy c (counted l d (scheduleOf d sch) ts))
-      (memory (remembers (d .choices) (scheduleOf d sch) greedy c) (scheduleOf d sch) greedy (outcome d sch levels bound greedy c (counted l d (scheduleOf d sch) ts)) c)
+  begun-makes : (ts : List Told) → Makes 0 (outcome d sch levels bound greedy c (counted l d (keptOf d sch) ts))
+      (memory (remembers (d .choices) (keptOf d sch) greedy c) (keptOf d sch) greedy (outcome d sch levels bound greedy c (counted l d (keptOf d sch) ts)) c)
       (asksOf l d levels (begunAnswer d sch levels bound greedy c) ts) (run l d levels (begunAnswer d sch levels bound greedy c) ts)
   unfolding begunAnswer
-  begun-makes ts = bool-cases (remembers (d .choices) (scheduleOf d sch) greedy c)
-      (λ h. rw h (makes-ended l d levels (answer 0 0 (searchWith false greedy 0 0 0 0 (scheduleOf d sch) (recalled d c) c)) ts refl (record { asks-are = refl; count-is = refl; knows-it = refl; waits = refl; remembers-it = refl })))
+  begun-makes ts = bool-cases (remembers (d .choices) (keptOf d sch) greedy c)
+      (λ h. rw h (makes-ended l d levels (answer 0 0 (searchWith false greedy 0 0 0 0 (keptOf d sch) (recalled d c) c)) ts refl (record { asks-are = refl; count-is = refl; knows-it = refl; waits = refl; remembers-it = refl })))
       (λ h. rw h (bool-cases greedy (λ g. rw g (greedy-makes standing ts)) (λ g. rw g (levels-makes standing bound ts))))
 
   -- the answer that begin gives

@@ -1,5 +1,6 @@
 // assignment_solver.rs, solve_until: the preference search, handed back after each ask.
 mod beginning;
+mod bytes;
 mod numbers;
 mod steps;
 mod telling;
@@ -33,7 +34,7 @@ pub struct CachedAssignment {
 }
 
 // A search that waits for the answer to its ask, or has ended. `level` and `plan` are those of the best
-// plan so far.
+// plan so far. It is lent as the bytes of this struct.
 #[repr(C)]
 pub struct Search {
     pub asking: bool,
@@ -42,9 +43,9 @@ pub struct Search {
     pub optimal: bool,
     pub asks: u32,
     pub level: u32,
-    pub start: usize,
-    pub low: usize,
-    pub high: usize,
+    pub start: u32,
+    pub low: u32,
+    pub high: u32,
     pub schedule: Scheduling,
     pub plan: [u8; 512],
     pub cached: CachedAssignment,
@@ -55,6 +56,6 @@ pub struct Search {
 pub struct SearchAnswer {
     pub number: u32,
     pub level: u32,
-    pub index: usize,
+    pub index: u32,
     pub search: Search,
 }

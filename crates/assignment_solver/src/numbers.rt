@@ -1,63 +1,54 @@
 // The numbers of begin and tell.
-use crate::CachedAssignment;
 use crate::LimitSolveResult;
-use crate::Search;
+use crate::bytes::seats;
 use crate::steps::is_feasible;
 use input_data::Beside;
-use input_data::InputData;
 use input_data::Limits;
-use scheduling::Scheduling;
+use input_data::flag;
+use input_data::word;
 ghost use mathlib.Core.Path.{_≡_};
-ghost use mathlib.Core.Bool.{true, not, _&&_};
-ghost use Prim.Native.Nat.{_*_, _≤_};
+ghost use mathlib.Core.Bool.{not, _&&_};
 ghost use lib.Dec.{eqb};
-ghost use lib.ListN.{length};
-ghost use Rattle.assignment.specs.Plan.{badPlanFor};
-ghost use Rattle.scheduling.specs.Schedule.{badSlots};
+ghost use Rattle.counting.specs.Lent.{old};
+ghost use Rattle.assignment.specs.Laws.{Small};
+ghost use Rattle.input_data.specs.Bytes.{IsDay, dayOf};
 ghost use Rattle.input_data.specs.Lengths.{Within};
 ghost use Rattle.assignment_solver.specs.Search.{told};
-ghost use Rattle.assignment_solver.specs.Numbers.{Holding};
-ghost use Rattle.assignment_solver.specs.Calls.{besideLevels, spentAt, beginNumber, heldNumber, tellNumber};
+ghost use Rattle.assignment_solver.specs.Numbers.{Telling};
+ghost use Rattle.assignment_solver.specs.Bytes.{IsCached, IsSearch, cachedIn, searchIn};
+ghost use Rattle.assignment_solver.specs.Calls.{besideLevels, outsideCached, badCached, badPlans, spent, heldNumber, beginLentNumber, tellLentNumber};
 
-// 13 of a plan that is there.
-fn bad_if(there: bool, choices: usize, seats: usize, schedule: Scheduling, plan: &[u8]) -> bool
-    requires { ⌜ (choices ≤ 32) × (there ≡ true → seats ≤ length (now plan)) ⌝ }
-    ensures { λ r. ⌜ r ≡ (there && badPlanFor choices seats (schedule .entries) (now (plan .entry))) ⌝ }
+// 11 of what is remembered, if anything is.
+fn outside_cached(day: &[u8], cached: &[u8]) -> bool
+    requires { ⌜ IsDay (now day) × IsCached (now cached) ⌝ }
+    ensures { λ r. ⌜ r ≡ outsideCached (dayOf (old day)) (cachedIn (old cached)) ⌝ }
 {
-    if there {
-        return assignment::bad_plan_for(choices, seats, &schedule.entries, plan);
-    }
-    false
+    let outside = scheduling::bad_slots(
+        input_data::choices(day),
+        input_data::slots(day),
+        &cached[2..34],
+    );
+    flag(cached, 0) & outside
 }
 
-// The same of a plan that the call holds.
-fn bad_kept(
-    there: bool,
-    choices: usize,
-    seats: usize,
-    schedule: Scheduling,
-    plan: [u8; 512],
-) -> bool
-    requires { ⌜ (choices ≤ 32) × (seats ≤ 512) ⌝ }
-    ensures { λ r. ⌜ r ≡ (there && badPlanFor choices seats (schedule .entries) plan) ⌝ }
+// 13 of what is remembered, if anything is.
+fn bad_cached(day: &[u8], cached: &[u8]) -> bool
+    requires { ⌜ IsDay (now day) × Small (dayOf (now day)) × IsCached (now cached) ⌝ }
+    ensures { λ r. ⌜ r ≡ badCached (dayOf (old day)) (cachedIn (old cached)) ⌝ }
 {
-    bad_if(there, choices, seats, schedule, &plan[..])
+    let choices = input_data::choices(day);
+    let there = flag(cached, 0);
+    assignment::bad_if(there, choices, seats(day), &cached[2..34], &cached[34..546])
 }
 
-// 11 of a schedule that is there.
-fn outside_if(there: bool, choices: usize, slots: usize, schedule: Scheduling) -> bool
-    ensures { λ r. ⌜ r ≡ (there && badSlots choices slots (schedule .entries)) ⌝ }
-{
-    there & scheduling::bad_slots(choices, slots, &schedule.entries)
-}
-
-fn beside(day: InputData, levels: &[u32], wrong: bool) -> Beside
-    ensures { λ r. ⌜ r ≡ besideLevels day (now (levels .entry)) wrong ⌝ }
+fn beside(day: &[u8], levels: &[u32], wrong: bool) -> Beside
+    requires { ⌜ IsDay (now day) ⌝ }
+    ensures { λ r. ⌜ r ≡ besideLevels (dayOf (old day)) (old levels) wrong ⌝ }
 {
     Beside {
         lengths: wrong,
         preferences: false,
-        levels: input_data::bad_levels(day.max_preference, levels),
+        levels: input_data::bad_levels(input_data::max_preference(day), levels),
         costs: false,
         asked: false,
     }
@@ -65,40 +56,38 @@ fn beside(day: InputData, levels: &[u32], wrong: bool) -> Beside
 
 pub fn begin_number(
     limits: Limits,
-    day: InputData,
-    schedule: Scheduling,
+    day: &[u8],
+    schedule: &[u8],
     levels: &[u32],
-    cached: CachedAssignment,
+    cached: &[u8],
 ) -> u32
-    requires { ⌜ Within limits ⌝ }
-    ensures { λ r. ⌜ r ≡ beginNumber limits day schedule (now (levels .entry)) cached ⌝ }
+    requires { ⌜ Within limits × IsDay (now day) ⌝ }
+    ensures { λ r. ⌜ r ≡ beginLentNumber limits (old day) (old schedule) (old levels) (old cached) ⌝ }
 {
-    let number = input_data::day_number(limits, day, beside(day, levels, false), 0);
+    let wrong = (schedule.len() != 32) | (cached.len() != 546);
+    let number = input_data::day_number(limits, day, beside(day, levels, wrong), 0);
     if number != 0 {
         return number;
     }
-    let outside = outside_if(true, day.choices, day.slots, schedule)
-        | outside_if(cached.there, day.choices, day.slots, cached.schedule);
-    let seats = day.choosers * day.slots;
-    let plan = cached.plan;
-    let bad = bad_kept(cached.there, day.choices, seats, cached.schedule, plan);
-    input_data::first(outside, 11, input_data::first(bad, 13, 0))
+    let choices = input_data::choices(day);
+    let outside = scheduling::bad_slots(choices, input_data::slots(day), schedule)
+        | outside_cached(day, cached);
+    input_data::first(
+        outside,
+        11,
+        input_data::first(bad_cached(day, cached), 13, 0),
+    )
 }
 
 // 18. `count` is the count of levels.
-fn is_spent(
-    asking: bool,
-    greedy: bool,
-    asks: u32,
-    start: usize,
-    low: usize,
-    high: usize,
-    count: usize,
-) -> bool
-    ensures { λ r. ⌜ r ≡ spentAt asking greedy asks start low high count ⌝ }
+fn is_spent(search: &[u8], count: usize) -> bool
+    requires { ⌜ IsSearch (now search) ⌝ }
+    ensures { λ r. ⌜ r ≡ spent (searchIn (old search)) count ⌝ }
 {
-    let range = (low < start) | (high < low) | (count <= high);
-    !asking | (256 < asks) | (!greedy & range)
+    let low = word(search, 16);
+    let high = word(search, 20);
+    let range = (low < word(search, 12)) | (high < low) | (count <= high as usize);
+    !flag(search, 0) | (256 < word(search, 4)) | (!flag(search, 1) & range)
 }
 
 // 2 of a told plan, which is looked at where the result is feasible.
@@ -108,54 +97,57 @@ fn wrong_length(feasible: bool, size: usize, plan: usize) -> bool
     feasible & (plan != size)
 }
 
+// 13 of the told plan and of the best so far.
+fn bad_plans(day: &[u8], search: &[u8], result: LimitSolveResult, plan: &[u8]) -> bool
+    requires { ⌜ Telling (now day) (now search) result (now plan) ⌝ }
+    ensures { λ r. ⌜ r ≡ badPlans (dayOf (old day)) (searchIn (old search)) (told result (old plan)) ⌝ }
+{
+    let choices = input_data::choices(day);
+    let seats = seats(day);
+    assignment::bad_if(is_feasible(result), choices, seats, &search[24..56], plan)
+        | assignment::bad_if(
+            flag(search, 2),
+            choices,
+            seats,
+            &search[24..56],
+            &search[56..568],
+        )
+}
+
 // 11, 13 and 18 of what a search holds and is told.
 fn held_number(
-    day: InputData,
-    search: Search,
+    day: &[u8],
+    search: &[u8],
     count: usize,
     result: LimitSolveResult,
     plan: &[u8],
 ) -> u32
-    requires { ⌜ Holding day result (now plan) ⌝ }
-    ensures { λ r. ⌜ r ≡ heldNumber day search count (told result (now (plan .entry))) ⌝ }
+    requires { ⌜ Telling (now day) (now search) result (now plan) ⌝ }
+    ensures { λ r. ⌜ r ≡ heldNumber (dayOf (old day)) (searchIn (old search)) count (told result (old plan)) ⌝ }
 {
-    let choices = day.choices;
-    let cached = search.cached;
-    let outside = outside_if(true, choices, day.slots, search.schedule)
-        | outside_if(cached.there, choices, day.slots, cached.schedule);
-    let seats = day.choosers * day.slots;
-    let best = search.plan;
-    let kept = cached.plan;
-    let bad = bad_if(is_feasible(result), choices, seats, search.schedule, plan)
-        | bad_kept(search.found, choices, seats, search.schedule, best)
-        | bad_kept(cached.there, choices, seats, cached.schedule, kept);
-    let spent = is_spent(
-        search.asking,
-        search.greedy,
-        search.asks,
-        search.start,
-        search.low,
-        search.high,
-        count,
-    );
-    let from13 = input_data::first(bad, 13, input_data::first(spent, 18, 0));
+    let choices = input_data::choices(day);
+    let outside = scheduling::bad_slots(choices, input_data::slots(day), &search[24..56])
+        | outside_cached(day, &search[568..1114]);
+    let bad = bad_plans(day, search, result, plan) | bad_cached(day, &search[568..1114]);
+    let from13 = input_data::first(bad, 13, input_data::first(is_spent(search, count), 18, 0));
     input_data::first(outside, 11, from13)
 }
 
 pub fn tell_number(
     limits: Limits,
-    day: InputData,
-    search: Search,
+    day: &[u8],
+    search: &[u8],
     levels: &[u32],
     result: LimitSolveResult,
     plan: &[u8],
 ) -> u32
-    requires { ⌜ Within limits ⌝ }
-    ensures { λ r. ⌜ r ≡ tellNumber limits day search (now (levels .entry)) (told result (now (plan .entry))) ⌝ }
+    requires { ⌜ Within limits × IsDay (now day) ⌝ }
+    ensures { λ r. ⌜ r ≡ tellLentNumber limits (old day) (old search) (old levels) (told result (old plan)) ⌝ }
 {
     let size = limits.choosers * limits.slots;
     let wrong = wrong_length(is_feasible(result), size, plan.len());
-    let number = input_data::day_number(limits, day, beside(day, levels, wrong), 0);
+    let lengths = (search.len() != 1114) | wrong;
+    let number = input_data::day_number(limits, day, beside(day, levels, lengths), 0);
     if number != 0 {
         return number;
     }

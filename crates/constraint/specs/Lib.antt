@@ -2,3 +2,4 @@
 pub mod Kind
 pub mod Cases
 pub mod Negation
+pub mod Numbers

@@ -1,4 +1,6 @@
 // constraint.rs: the kinds of constraints, their numbers, and negation.
+pub mod numbers;
+
 ghost use mathlib.Core.Path.{_≡_};
 ghost use Rattle.constraint.specs.Kind.{kindNumber, kindOf, isValid, isScheduling, isAssignment};
 ghost use Rattle.constraint.specs.Cases.{operatorNumber, operatorOf, negatedOperator, targetCase, targetOperand, targetOf, extraCase, extraOperand, extraOf};

@@ -1,16 +1,18 @@
 -- Laws of joins and tables. Assumes nothing.
-use Prim.Native.Nat.{ℕ, zero, suc, _+_, _*_, _<_, _≤_, zero-le}
+use Prim.Native.Nat.{ℕ, zero, suc, _+_, _*_, _<_, _≤_, min, zero-le}
 use mathlib.Core.Path.{_≡_, refl, sym, ap, _∙_}
 use mathlib.Core.Bool.{Bool, true, false}
 use mathlib.Core.List.{List, [], _∷_, _++_}
 use native.Mathlib.Nat.{suc-mul, le-of-eq}
 use native.Mathlib.Numerals.{add-one}
 use native.Mathlib.Omega.{arith}
-use lib.ListN.{length, getD, set, take, length-append, length-set, List·getD-append}
-use lib.Seq.{take-all, take-suc-set, getD-at}
-use Rattle.counting.specs.Fold.{foldTo, fold-none, fold-suc, fold-more, sumTo, onlyIf, joinTo, tableTo}
+use lib.Dec.{ltb}
+use lib.ListN.{length, getD, set, take, replicate, length-append, length-set, length-replicate, getD-replicate, List·getD-append, List·getD-eq-default}
+use borrow.Author.Tests.{lt-ltb, le-ltb}
+use lib.Seq.{take-all, take-suc-set, getD-at, ext-getD, getD-set-same, getD-set-other}
+use Rattle.counting.specs.Fold.{foldTo, fold-none, fold-suc, fold-more, gate, sumTo, onlyIf, joinTo, tableTo}
 use Rattle.counting.specs.Sums.{sum-le, sum-const}
-use Rattle.counting.specs.Tests.{eq-cases}
+use Rattle.counting.specs.Tests.{eq-cases, lt-cases}
 
 module _ {ℓ} {A : Type ℓ} where
   pub length-join : (n : ℕ) (f : ℕ → List A) → length (joinTo n f) ≡ sumTo n (λ k. length (f k))
@@ -62,3 +64,28 @@ module _ {ℓ} {A : Type ℓ} where
 
   pub filled-all : {f : ℕ → A} {n i : ℕ} {l : List A} → i ≡ n → Filled f n i l → l ≡ tableTo n f
   filled-all {n = n} {l = l} e p = sym (take-all n l (le-of-eq (p .long))) ∙ (rw e at (p .front))
+
+-- an array of n zeros that a loop fills from the front: the first i are f 0, f 1, .., the rest are zeros
+pub record Padded (f : ℕ → ℕ) (n i : ℕ) (l : List ℕ) : Type 0 where
+  pub long : length l ≡ n
+  pub at : (k : ℕ) → getD l k 0 ≡ gate (ltb k i) (f k)
+
+zeros-at : (n k : ℕ) → getD {A = ℕ} (replicate n 0) k 0 ≡ 0
+zeros-at n k = lt-cases k n (λ h e. getD-replicate {A = ℕ} n k 0 0 h) (λ h e. List·getD-eq-default {A = ℕ} (replicate n 0) 0 {n = k} (omega (arith, length-replicate {A = ℕ} n 0)))
+
+pub padded-none : (f : ℕ → ℕ) (n : ℕ) → Padded f n 0 (replicate n 0)
+padded-none f n = record { long = length-replicate n 0; at = λ k. zeros-at n k ∙ ap (λ (b : Bool). gate b (f k)) (sym (le-ltb k 0 zero-le)) }
+
+pub padded-more : {f : ℕ → ℕ} {n i : ℕ} {l : List ℕ} {x : ℕ} → i < n → x ≡ f i → Padded f n i l → Padded f n (i + 1) (set l i x)
+padded-more {f = f} {n = n} {i = i} {l = l} {x = x} h e p = record {
+  long = length-set l i x ∙ p .long;
+  at = λ k. eq-cases k i
+      (λ q t. rw (q, lt-ltb i (i + 1) (omega arith)) (getD-set-same l i x 0 (omega (arith, p .long)) ∙ e))
+      (λ q t. getD-set-other l i k x 0 q ∙ p .at k ∙ ap (λ (b : Bool). gate b (f k)) (lt-cases k i (λ a u. u ∙ sym (lt-ltb k (i + 1) (omega arith))) (λ a u. u ∙ sym (le-ltb k (i + 1) (omega arith)))));
+}
+
+-- all that are counted, and no more than there are
+pub padded-all : {f : ℕ → ℕ} {n i : ℕ} {l : List ℕ} (m : ℕ) → i ≡ min m n → Padded f n i l → l ≡ tableTo n (λ k. gate (ltb k m) (f k))
+padded-all {f = f} {n = n} {i = i} {l = l} m e p = ext-getD 0 l (tableTo n (λ k. gate (ltb k m) (f k))) (p .long ∙ sym (length-table n (λ k. gate (ltb k m) (f k))))
+    (λ k b. let h : k < n = omega (arith, p .long) in
+    p .at k ∙ ap (λ (t : Bool). gate t (f k)) (lt-cases k i (λ a u. u ∙ sym (lt-ltb k m (omega arith))) (λ a u. u ∙ sym (le-ltb k m (omega arith)))) ∙ sym (table-at n (λ j. gate (ltb j m) (f j)) 0 k h))

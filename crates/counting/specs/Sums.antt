@@ -1,5 +1,5 @@
 -- Laws of bounded sums and counts. Assumes nothing.
-use Prim.Native.Nat.{ℕ, zero, suc, _+_, _*_, _≤_, _<_, zero-le}
+use Prim.Native.Nat.{ℕ, zero, suc, _+_, _*_, _≤_, _<_, min, zero-le}
 use mathlib.Core.Path.{_≡_, refl, sym, ap, _∙_}
 use mathlib.Core.Bool.{Bool, true, false, cond}
 use mathlib.Core.Logic.{_≢_}
@@ -155,6 +155,12 @@ sum-below zero n f h = let z : n ≡ 0 = omega arith in rw z (fold-none _+_ 0 (�
 sum-below (suc m) n f h = lt-cases m n
     (λ b v. let z : n ≡ suc m = omega arith in rw z (fold-ext _+_ 0 (suc m) (λ k. gate (ltb k (suc m)) (f k)) f (λ k c. ap (λ (t : Bool). gate t (f k)) (lt-ltb k (suc m) c))))
     (λ b v. fold-suc _+_ 0 m (λ k. gate (ltb k n) (f k)) ∙ rw v (omega (arith, sum-below m n f b)))
+
+-- as many terms as are counted, and no more than there are
+pub sum-places : (most n : ℕ) (f : ℕ → ℕ) → sumTo (min n most) f ≡ sumTo most (λ k. gate (ltb k n) (f k))
+sum-places most n f = lt-cases n most
+    (λ h e. let m : min n most ≡ n = omega arith in ap (λ k. sumTo k f) m ∙ sym (sum-below most n f (omega arith)))
+    (λ h e. let m : min n most ≡ most = omega arith in ap (λ k. sumTo k f) m ∙ fold-ext _+_ 0 most f (λ k. gate (ltb k n) (f k)) (λ k l. ap (λ (t : Bool). gate t (f k)) (sym (lt-ltb k n (omega arith)))))
 
 -- a place in a table of n rows of m
 pub grid-lt : {n m a b : ℕ} → a < n → b < m → a * m + b < n * m

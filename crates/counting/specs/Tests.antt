@@ -1,12 +1,12 @@
 -- Tests: taken apart, and over the indices below a bound. Assumes nothing.
-use Prim.Native.Nat.{ℕ, zero, suc, _+_, _<_, _≤_}
+use Prim.Native.Nat.{ℕ, zero, suc, _+_, _<_, _≤_, min}
 use mathlib.Core.Path.{_≡_, refl, sym, ap, _∙_}
 use mathlib.Core.Bool.{Bool, true, false, not, _&&_, _||_, and-false, or-true}
 use mathlib.Core.Logic.{_≢_}
 use native.Mathlib.Omega.{arith}
 use lib.Dec.{eqb, ltb}
 use borrow.Author.Tests.{eqb-true, eqb-false, eq-eqb, ne-eqb, ltb-true, ltb-false, lt-ltb}
-use Rattle.counting.specs.Fold.{foldTo, fold-none, fold-suc, fold-more, allTo, anyTo}
+use Rattle.counting.specs.Fold.{foldTo, fold-none, fold-suc, fold-more, fold-ext, allTo, anyTo}
 
 -- a call gave r, which its contract says is a, and a test found it to be v
 pub so {ℓ} : {A : Type ℓ} {r a v : A} → r ≡ a → r ≡ v → a ≡ v
@@ -129,3 +129,10 @@ below-any most n f h = bool-cases (anyTo n f)
     (λ e. let p : Passes n f = some-passes n f e in
     one-passes most (faultBelow n f) (p .at) (omega (arith, p .below)) (rw (lt-ltb (p .at) n (p .below)) (p .holds)) ∙ sym e)
     (λ e. each-below most n f (none-each n f e) ∙ sym e)
+
+-- a loop over as many places as are counted, and no more than the array has
+pub places-all : (most n : ℕ) (f : ℕ → Bool) → anyTo (min n most) f ≡ someBelow most n f
+unfolding someBelow
+places-all most n f = lt-cases n most
+    (λ h e. let m : min n most ≡ n = omega arith in ap (λ k. anyTo k f) m ∙ sym (below-any most n f (omega arith)))
+    (λ h e. let m : min n most ≡ most = omega arith in ap (λ k. anyTo k f) m ∙ sym (fold-ext _||_ false most (faultBelow n f) f (λ k l. ap (λ (b : Bool). b && f k) (lt-ltb k n (omega arith)))))

@@ -1,6 +1,7 @@
-// Signed leaves that several crates share: the rest of the code counts in unsigned numbers.
+// Leaves that several crates share. Signed ones are here, since the rest of the code counts in unsigned
+// numbers.
 ghost use mathlib.Core.Path.{_≡_};
-ghost use Prim.Native.Nat.{_<_};
+ghost use Prim.Native.Nat.{_<_, min};
 ghost use lib.IntN.{pos, negℤ, _-ℤ_};
 ghost use Rattle.counting.specs.Ints.{eqZ};
 
@@ -25,4 +26,14 @@ pub fn same(a: i32, b: i32) -> bool
     ensures { λ r. ⌜ r ≡ eqZ a b ⌝ }
 {
     a == b
+}
+
+// n, or the most that there may be.
+pub fn at_most(most: usize, n: usize) -> usize
+    ensures { λ r. ⌜ r ≡ min n most ⌝ }
+{
+    if n < most {
+        return n;
+    }
+    most
 }

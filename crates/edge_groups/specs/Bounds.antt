@@ -16,7 +16,7 @@ use Rattle.constraint.specs.Cases.{targetOperand}
 use Rattle.input_data.specs.declared.ConstraintList.{ConstraintList}
 use Rattle.input_data.specs.Day.{constraintAt}
 use Rattle.scheduling.specs.Schedule.{entryAt}
-use Rattle.schedule_state.specs.declared.state.Sizes.{Sizes}
+use Rattle.input_data.specs.declared.Sizes.{Sizes}
 use Rattle.edge_groups.specs.declared.Marks.{Marks}
 use Rattle.edge_groups.specs.Groups.{each, allThere, present, groupsOf, blockedOf, flat, Buffers, marks, marked, PutGroups, Room}
 use Rattle.edge_groups.specs.Names.{pairNames, slotNames, slotNamesAt, sameChoicesNames, constraintNames, constraintNamesAt, constraintsNames, memberNameAt, chooserNames, chooserNamesAt, groupNames, groupNamesAt, startOf, dependentNames, names}

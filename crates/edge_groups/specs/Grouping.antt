@@ -18,7 +18,7 @@ use Rattle.scheduling.specs.Schedule.{entryAt}
 use Rattle.slot_lists.specs.Lists.{listed}
 use Rattle.slot_lists.specs.Lists.{part-length as front-length, part-at as front-at}
 use Rattle.schedule_state.specs.Blocks.{cell}
-use Rattle.schedule_state.specs.declared.state.Sizes.{Sizes}
+use Rattle.input_data.specs.declared.Sizes.{Sizes}
 use Rattle.edge_groups.specs.Groups.{each, allThere, ifThere, present}
 use Rattle.edge_groups.specs.Bounds.{start-within}
 use Rattle.edge_groups.specs.Names.{pairNames, slotNames, sameChoicesNames, constraintNames, memberName, chooserNamesAt, groupNames, groupNamesAt, startOf}

@@ -12,7 +12,7 @@ use Rattle.constraint.specs.declared.Constraint.{Constraint}
 use Rattle.input_data.specs.Day.{constraintAt}
 use Rattle.input_data.specs.declared.ConstraintList.{ConstraintList}
 use Rattle.scheduling.specs.Schedule.{entryAt}
-use Rattle.schedule_state.specs.declared.state.Sizes.{Sizes}
+use Rattle.input_data.specs.declared.Sizes.{Sizes}
 
 module _ {A : Type 0} where
   -- ---- ChoosersHaveSameChoices of choosers a and b: for each slot and listed choice, both choosers' edges

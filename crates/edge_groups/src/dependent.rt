@@ -2,7 +2,7 @@
 use crate::Marks;
 use crate::edges::edge_number;
 use crate::edges::put_edge;
-use schedule_state::Sizes;
+use input_data::Sizes;
 ghost use mathlib.Core.Path.{_≡_};
 ghost use Prim.Native.Nat.{_+_, _*_, _<_, _≤_};
 ghost use lib.ListN.{length};

@@ -5,8 +5,8 @@ mod pairs;
 
 use dependent::put_dependent;
 use input_data::ConstraintList;
+use input_data::Sizes;
 use pairs::put_constraints;
-use schedule_state::Sizes;
 ghost use lib.ListN.{length};
 ghost use Rattle.scheduling.specs.Schedule.{entryAt};
 ghost use Rattle.slot_lists.specs.Lists.{listed};

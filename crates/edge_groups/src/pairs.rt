@@ -4,7 +4,7 @@ use crate::edges::edge_number;
 use crate::edges::put_edge;
 use constraint::Constraint;
 use input_data::ConstraintList;
-use schedule_state::Sizes;
+use input_data::Sizes;
 ghost use mathlib.Core.List.{[], _∷_};
 ghost use Prim.Native.Nat.{_+_, _*_, _<_, _≤_};
 ghost use lib.ListN.{length};

@@ -7,7 +7,7 @@ use lib.IntN.{ℤ, pos}
 use Rattle.counting.specs.Fold.{joinTo, tableTo}
 use Rattle.counting.specs.Ints.{eqZ}
 use Rattle.counting.specs.Search.{firstTo}
-use Rattle.schedule_state.specs.declared.state.Sizes.{Sizes}
+use Rattle.input_data.specs.declared.Sizes.{Sizes}
 use Rattle.edge_values.specs.Values.{valueAt}
 
 -- edge e is one of n edges and has the value 1

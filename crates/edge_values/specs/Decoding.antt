@@ -14,7 +14,7 @@ use Rattle.counting.specs.Tests.{lt-cases, eq-cases, never}
 use Rattle.counting.specs.Sums.{sum-const}
 use Rattle.counting.specs.Written.{written, written-none, written-then, length-written}
 use Rattle.scheduling.specs.Schedule.{entryAt}
-use Rattle.schedule_state.specs.declared.state.Sizes.{Sizes}
+use Rattle.input_data.specs.declared.Sizes.{Sizes}
 use Rattle.slot_lists.specs.Lists.{listed, part-length, part-at}
 use Rattle.mip_flow.specs.Index.{numberAt}
 use Rattle.edge_values.specs.Decode.{isOne, hasOne, choiceFor, planRow, decoded}

@@ -1,5 +1,5 @@
 // The plan that edge values decode to.
-use schedule_state::Sizes;
+use input_data::Sizes;
 ghost use mathlib.Core.Path.{_≡_};
 ghost use Prim.Native.Nat.{_*_, _<_, _≤_};
 ghost use lib.ListN.{length};

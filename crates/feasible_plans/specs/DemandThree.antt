@@ -19,7 +19,7 @@ use Rattle.plans.specs.Model.{ModelInput, modelInput}
 use Rattle.plans.specs.Seatable.{choiceIn}
 use Rattle.schedule_state.specs.Agreement.{Call, Carried, first, run, Fed, AsFresh}
 use Rattle.schedule_state.specs.Calls.{buildNumber, builtState, builtLists}
-use Rattle.schedule_state.specs.State.{keptOf}
+use Rattle.scheduling.specs.Handed.{keptOf}
 use Rattle.scheduling.specs.Schedule.{entryAt}
 use Rattle.scheduling.specs.declared.Scheduling.{Scheduling}
 use Rattle.scoring.specs.Feasible.{allPlaced, scheduleFeasible, planFeasible}

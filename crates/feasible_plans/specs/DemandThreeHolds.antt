@@ -21,11 +21,15 @@ use Rattle.plans.specs.Model.{ModelInput, scheduleOf, networkOf, wrongTables, b
 use Rattle.plans.specs.Plans.{plans-seatable, same-plans, within-limit}
 use Rattle.plans.specs.Seatable.{Seatable}
 use Rattle.schedule_state.specs.Agreement.{Carried, first, run, AsFresh}
-use Rattle.schedule_state.specs.Calls.{outside, stateNumber}
+use Rattle.schedule_state.specs.Calls.{stateNumber}
+use Rattle.scheduling.specs.Handed.{outside}
 use Rattle.schedule_state.specs.CarriedAgrees.{carried-agrees}
-use Rattle.schedule_state.specs.Good.{full-within, kept-fits}
-use Rattle.schedule_state.specs.Numbers.{UpdateAccepted, update-accepted, build-inside, build-ready, first-not}
-use Rattle.schedule_state.specs.State.{inconsistent, keptOf}
+use Rattle.schedule_state.specs.Good.{kept-fits}
+use Rattle.input_data.specs.Numbers.{full-within}
+use Rattle.schedule_state.specs.Numbers.{UpdateAccepted, update-accepted, build-inside, build-ready}
+use Rattle.input_data.specs.Numbers.{first-not}
+use Rattle.schedule_state.specs.State.{inconsistent}
+use Rattle.scheduling.specs.Handed.{keptOf}
 use Rattle.scheduling.specs.Schedule.{entryAt, kept-twice}
 use Rattle.edge_values.specs.Values.{valuesNumber}
 use Rattle.feasible_plans.specs.DemandThree.{carriedModel, freshModel, lastSchedule, Granted, Demand, DemandThree}
@@ -43,7 +47,7 @@ model-zero : (x y : ModelInput) (lens : Lengths) (short : Bool) → x .day ≡ y
 unfolding stateNumber firstOf
 model-zero x y lens short p q r e c =
     let d = x .day in
-    let rest = firstOf (outside d (x .state .schedule)) 11 (firstOf (inconsistent fullDay d (x .state) (x .lists)) 12 0) in
+    let rest = firstOf (false || outside d (x .state .schedule)) 11 (firstOf (inconsistent fullDay d (x .state) (x .lists)) 12 0) in
     let a = accepted fullDay d (besideModel fullDay x lens short) rest full-within e in
     let b = past fullDay d (besideModel fullDay x lens short) rest e in
     let u : ((wrongTables x || ltb (length (x .lists)) (listsLength fullDay) || shortBuffers fullDay lens) ≡ false) × (short ≡ false) = or-split (b .lengths) in

@@ -3,15 +3,15 @@ use Prim.Native.Nat.{ℕ, _<_}
 use mathlib.Core.Path.{_≡_, refl, sym, ap, _∙_}
 use mathlib.Core.Bool.{true, false, _&&_}
 use lib.Dec.{eqb}
-use mathlib.Core.Logic.{_⊎_, inl, inr}
-use borrow.Author.Tests.{eqb-true, ltb-true, not-false}
+use mathlib.Core.Logic.{_⊎_, inl, inr, _≢_}
+use borrow.Author.Tests.{eqb-true, ne-eqb, ltb-true, not-false}
 use Rattle.counting.specs.Tests.{and-split}
 use Rattle.constraint.specs.Kind.{kindNumber, kindOf}
-use Rattle.constraint.specs.Cases.{targetCase, targetOperand}
+use Rattle.constraint.specs.Cases.{targetCase, targetOperand, extraCase}
 use Rattle.constraint.specs.declared.Constraint.{Constraint}
 use Rattle.constraint.specs.declared.ConstraintType.{ConstraintType}
 use Rattle.constraint.specs.declared.ConstraintType.the-variants.{Invalid, ChoiceIsInSlot, ChoiceIsNotInSlot, ChoicesAreInSameSlot, ChoicesAreNotInSameSlot, ChoicesHaveOffset, SlotHasLimitedSize, SlotContainsChoice, SlotNotContainsChoice, SlotsHaveSameChoices, ChoicesHaveSameChoosers, ChooserIsInChoice, ChooserIsNotInChoice, ChoosersHaveSameChoices, ChoiceContainsChooser, ChoiceNotContainsChooser}
-use Rattle.input_data.specs.Operands.{leftCase, rightCase, isOneOf, leftFits, rightFits, extraFits, badOperand}
+use Rattle.input_data.specs.Operands.{leftCase, rightCase, readCase, isOneOf, leftFits, rightFits, extraFits, badOperand}
 
 -- two kinds do not share a number
 pub kind-of-number : (k : ConstraintType) → kindOf (kindNumber k) ≡ k
@@ -43,10 +43,16 @@ cases k (inl e) = let p : k ≡ ChooserIsInChoice = sym (kind-of-number k) ∙ a
 cases k (inr e) = let p : k ≡ ChooserIsNotInChoice = sym (kind-of-number k) ∙ ap kindOf e in rw p (refl, refl)
 
 module _ (choosers choices slots : ℕ) (c : Constraint) (fine : badOperand choosers choices slots c ≡ false) where
+  parts : ((leftFits choosers choices slots c && rightFits choosers choices slots c) ≡ true) × (extraFits c ≡ true)
+  parts = and-split (not-false _ fine)
+
   fits : (leftFits choosers choices slots c ≡ true) × (rightFits choosers choices slots c ≡ true)
-  fits =
-      let p : ((leftFits choosers choices slots c && rightFits choosers choices slots c) ≡ true) × (extraFits c ≡ true) = and-split (not-false _ fine) in
-      and-split (p .0)
+  fits = and-split (parts .0)
+
+  -- the extra is of the case that the kind reads, where it reads one
+  pub extra-is-case : readCase (c .kind) ≢ 0 → extraCase (c .extra) ≡ readCase (c .kind)
+  unfolding extraFits
+  extra-is-case n = eqb-true _ _ (rw (ne-eqb (readCase (c .kind)) 0 n) at (parts .1))
 
   -- for every kind: left is one of what the kind names by it ..
   pub left-is : isOneOf choosers choices slots (leftCase (c .kind)) (c .left) ≡ true

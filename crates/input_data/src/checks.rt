@@ -1,13 +1,26 @@
 // Checks 1, 3, 4, 7 and 10 of a day, and the order of all.
-use crate::InputData;
 use crate::Limits;
+use crate::bytes::assignment_count;
+use crate::bytes::choices;
+use crate::bytes::choosers;
+use crate::bytes::groups;
+use crate::bytes::length_at;
+use crate::bytes::max_at;
+use crate::bytes::max_preference;
+use crate::bytes::member_at;
+use crate::bytes::min_at;
+use crate::bytes::scheduling_count;
+use crate::bytes::slots;
+use crate::bytes::word;
+use crate::constraints::bad_assignment;
 use crate::constraints::bad_kinds;
-use crate::constraints::bad_operands;
+use crate::constraints::bad_scheduling;
+use counting::at_most;
 ghost use mathlib.Core.Path.{_≡_};
-ghost use Prim.Native.Nat.{_<_};
-ghost use Rattle.input_data.specs.Checks.{tooMany, badChoice, badChoices, memberCount, badMembers, badGroups, firstOf, lateNumber, dayNumber};
 ghost use lib.Dec.{leb};
-ghost use Rattle.counting.specs.Fold.{gate};
+ghost use Rattle.counting.specs.Lent.{old};
+ghost use Rattle.input_data.specs.Checks.{tooMany, badChoice, badChoices, memberCount, badMembers, badGroups, firstOf, lateNumber, dayNumber};
+ghost use Rattle.input_data.specs.Bytes.{IsDay, dayOf};
 
 // What a call tests beside the day itself; false where it has no such input.
 pub struct Beside {
@@ -42,36 +55,30 @@ fn bad_choice(min: u32, max: u32) -> bool
 }
 
 // 3.
-fn bad_choices<'a>(choices: usize, mins: &'a [u32; 32], maxs: &'a [u32; 32]) -> bool
-    ensures { λ r. ⌜ r ≡ badChoices choices (now (mins .entry)) (now (maxs .entry)) ⌝ }
+fn bad_choices(n: usize, day: &[u8]) -> bool
+    requires { ⌜ IsDay (now day) ⌝ }
+    ensures { λ r. ⌜ r ≡ badChoices n (dayOf (old day) .mins) (dayOf (old day) .maxs) ⌝ }
 {
+    let most = at_most(32, n);
     let mut bad = false;
     let mut i = 0;
-    while i < 32 {
-        bad = bad | ((i < choices) & bad_choice(mins[i], maxs[i]));
+    while i < most {
+        bad = bad | bad_choice(min_at(day, i), max_at(day, i));
         i += 1;
     }
     bad
 }
 
-// The length of a group that counts. That it is small lets 16 of them be added.
-fn length_in(counts: bool, length: u32) -> u64
-    ensures { λ r. ⌜ (r ≡ gate counts length) × (r < 4294967296) ⌝ }
-{
-    if counts {
-        return length as u64;
-    }
-    0
-}
-
 // The members of all groups together. The sum of 16 lengths of 32 bits fits.
-fn member_count(groups: usize, lengths: &[u32; 16]) -> u64
-    ensures { λ r. ⌜ r ≡ memberCount groups (now (lengths .entry)) ⌝ }
+fn member_count(n: usize, day: &[u8]) -> u64
+    requires { ⌜ IsDay (now day) ⌝ }
+    ensures { λ r. ⌜ r ≡ memberCount n (dayOf (old day) .lengths) ⌝ }
 {
+    let most = at_most(16, n);
     let mut sum: u64 = 0;
     let mut i = 0;
-    while i < 16 {
-        sum += length_in(i < groups, lengths[i]);
+    while i < most {
+        sum += length_at(day, i) as u64;
         i += 1;
     }
     sum
@@ -83,66 +90,55 @@ fn bad_member(choices: usize, member: u32) -> bool
     choices <= member as usize
 }
 
-fn bad_members(choices: usize, count: u64, members: &[u32; 32]) -> bool
-    ensures { λ r. ⌜ r ≡ badMembers choices count (now (members .entry)) ⌝ }
+fn bad_members(choices: usize, count: u64, day: &[u8]) -> bool
+    requires { ⌜ IsDay (now day) ⌝ }
+    ensures { λ r. ⌜ r ≡ badMembers choices count (dayOf (old day) .members) ⌝ }
 {
-    let most = count as usize;
+    let most = at_most(32, count as usize);
     let mut bad = false;
     let mut i = 0;
-    while i < 32 {
-        bad = bad | ((i < most) & bad_member(choices, members[i]));
+    while i < most {
+        bad = bad | bad_member(choices, member_at(day, i));
         i += 1;
     }
     (32 < count) | bad
 }
 
 // 10.
-fn bad_groups<'a>(
-    choices: usize,
-    groups: usize,
-    lengths: &'a [u32; 16],
-    members: &'a [u32; 32],
-) -> bool
-    ensures { λ r. ⌜ r ≡ badGroups choices groups (now (lengths .entry)) (now (members .entry)) ⌝ }
+fn bad_groups(choices: usize, n: usize, day: &[u8]) -> bool
+    requires { ⌜ IsDay (now day) ⌝ }
+    ensures { λ r. ⌜ r ≡ badGroups choices n (dayOf (old day) .lengths) (dayOf (old day) .members) ⌝ }
 {
-    (16 < groups) | bad_members(choices, member_count(groups, lengths), members)
+    (16 < n) | bad_members(choices, member_count(n, day), day)
 }
 
 // The first of checks 7 to 10 that applies, or `rest`.
-fn late_number(day: InputData, asked: bool, rest: u32) -> u32
-    ensures { λ r. ⌜ r ≡ lateNumber day asked rest ⌝ }
+fn late_number(day: &[u8], asked: bool, rest: u32) -> u32
+    requires { ⌜ IsDay (now day) ⌝ }
+    ensures { λ r. ⌜ r ≡ lateNumber (dayOf (old day)) asked rest ⌝ }
 {
-    let scheduling = day.scheduling;
-    let assignment = day.assignment;
-    let choosers = day.choosers;
-    let choices = day.choices;
-    let slots = day.slots;
-    let many = (32 < scheduling.count) | (32 < assignment.count);
-    let kinds = bad_kinds(1, 6, scheduling) | bad_kinds(65536, 65539, assignment);
-    let operands = bad_operands(choosers, choices, slots, scheduling)
-        | bad_operands(choosers, choices, slots, assignment)
+    let s = scheduling_count(day);
+    let a = assignment_count(day);
+    let kinds = bad_kinds(1, 6, day, 508, s) | bad_kinds(65536, 65539, day, 1276, a);
+    let operands = bad_scheduling(word(day, 4), word(day, 8), day, 508, s)
+        | bad_assignment(word(day, 0), word(day, 4), day, 1276, a)
         | asked;
-    let groups = bad_groups(choices, day.groups, &day.lengths, &day.members);
-    first(
-        many,
-        7,
-        first(kinds, 8, first(operands, 9, first(groups, 10, rest))),
-    )
+    let groups = bad_groups(choices(day), groups(day), day);
+    let from9 = first(operands, 9, first(groups, 10, rest));
+    first((32 < s) | (32 < a), 7, first(kinds, 8, from9))
 }
 
 // The first number that applies, with what a call tests beside the day, and `rest` after 10.
-pub fn day_number(limits: Limits, day: InputData, beside: Beside, rest: u32) -> u32
-    ensures { λ r. ⌜ r ≡ dayNumber limits day beside rest ⌝ }
+pub fn day_number(limits: Limits, day: &[u8], beside: Beside, rest: u32) -> u32
+    requires { ⌜ IsDay (now day) ⌝ }
+    ensures { λ r. ⌜ r ≡ dayNumber limits (dayOf (old day)) beside rest ⌝ }
 {
-    let most = day.max_preference;
-    let many = too_many(limits, day.choosers, day.choices, day.slots);
-    let choices = bad_choices(day.choices, &day.mins, &day.maxs);
-    let preferences = (255 < most) | beside.preferences;
+    let n = choices(day);
+    let many = too_many(limits, choosers(day), n, slots(day));
+    let sizes = bad_choices(n, day);
+    let preferences = (255 < max_preference(day)) | beside.preferences;
     let late = late_number(day, beside.asked, rest);
-    let from4 = first(
-        preferences,
-        4,
-        first(beside.levels, 5, first(beside.costs, 6, late)),
-    );
-    first(many, 1, first(beside.lengths, 2, first(choices, 3, from4)))
+    let from5 = first(beside.levels, 5, first(beside.costs, 6, late));
+    let from3 = first(sizes, 3, first(preferences, 4, from5));
+    first(many, 1, first(beside.lengths, 2, from3))
 }

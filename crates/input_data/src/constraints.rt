@@ -1,13 +1,18 @@
-// Checks 8 and 9, of one list of constraints.
-use crate::ConstraintList;
+// Checks 8 and 9, of one list of constraints, by the kinds' numbers.
 use crate::ConstraintNumbers;
+use crate::bytes::numbers_at;
 use constraint::Constraint;
-use constraint::ConstraintType;
+use constraint::ConstraintExtra;
+use counting::at_most;
 ghost use mathlib.Core.Path.{_≡_};
-ghost use Prim.Native.Nat.{min};
+ghost use mathlib.Core.Bool.{cond, not};
+ghost use Prim.Native.Nat.{_+_, _≤_};
+ghost use lib.ListN.{length};
+ghost use Rattle.counting.specs.Lent.{old};
 ghost use Rattle.input_data.specs.Day.{constraintOfNumbers};
-ghost use Rattle.input_data.specs.Operands.{leftCase, rightCase, readCase, isOneOf, leftFits, rightFits, extraFits, badOperand};
-ghost use Rattle.input_data.specs.Checks.{badKind, badKinds, badOperands};
+ghost use Rattle.input_data.specs.Checks.{badKind, badKinds};
+ghost use Rattle.input_data.specs.ByNumber.{extraByNumber, schedulingByNumber, assignmentByNumber, badScheduling, badAssignment};
+ghost use Rattle.input_data.specs.Bytes.{listIn};
 
 impl ConstraintNumbers {
     // The Rust's constraint that the numbers stand for.
@@ -31,159 +36,89 @@ fn bad_kind(least: u32, most: u32, kind: u32) -> bool
     (kind < least) | (most < kind)
 }
 
-// How many entries of a list are looked at: as many as it counts, and no more than it has.
-fn places(count: usize) -> usize
-    ensures { λ r. ⌜ r ≡ min count 32 ⌝ }
+// 8, of the list of `count` constraints whose entries begin at `at`.
+pub fn bad_kinds(least: u32, most: u32, day: &[u8], at: usize, count: usize) -> bool
+    requires { ⌜ at + 768 ≤ length (now day) ⌝ }
+    ensures { λ r. ⌜ r ≡ badKinds least most (listIn (old day) count at) ⌝ }
 {
-    if count < 32 {
-        return count;
-    }
-    32
-}
-
-// 8.
-pub fn bad_kinds(least: u32, most: u32, list: ConstraintList) -> bool
-    ensures { λ r. ⌜ r ≡ badKinds least most list ⌝ }
-{
-    let n = places(list.count);
+    let n = at_most(32, count);
     let mut bad = false;
     let mut i = 0;
     while i < n {
-        let c = list.entries[i];
+        let c = numbers_at(day, at, i);
         bad = bad | bad_kind(least, most, c.kind);
         i += 1;
     }
     bad
 }
 
-// What the left operand names: slot 1, choice 2, chooser 3.
-fn left_case(kind: ConstraintType) -> u32
-    ensures { λ r. ⌜ r ≡ leftCase kind ⌝ }
+fn pick(test: bool, yes: u32, no: u32) -> u32
+    ensures { λ r. ⌜ r ≡ cond test yes no ⌝ }
 {
-    match kind {
-        ConstraintType::Invalid => 0,
-        ConstraintType::ChoiceIsInSlot => 2,
-        ConstraintType::ChoiceIsNotInSlot => 2,
-        ConstraintType::ChoicesAreInSameSlot => 2,
-        ConstraintType::ChoicesAreNotInSameSlot => 2,
-        ConstraintType::ChoicesHaveOffset => 2,
-        ConstraintType::SlotHasLimitedSize => 1,
-        ConstraintType::SlotContainsChoice => 1,
-        ConstraintType::SlotNotContainsChoice => 1,
-        ConstraintType::SlotsHaveSameChoices => 1,
-        ConstraintType::ChoicesHaveSameChoosers => 2,
-        ConstraintType::ChooserIsInChoice => 3,
-        ConstraintType::ChooserIsNotInChoice => 3,
-        ConstraintType::ChoosersHaveSameChoices => 3,
-        ConstraintType::ChoiceContainsChooser => 2,
-        ConstraintType::ChoiceNotContainsChooser => 2,
+    if test {
+        return yes;
     }
+    no
 }
 
-// The case of the target that a kind reads: slot 1, choice 2, chooser 3, limit 4.
-fn right_case(kind: ConstraintType) -> u32
-    ensures { λ r. ⌜ r ≡ rightCase kind ⌝ }
+// Whether the extra is of the case that a scheduling constraint's kind reads.
+fn extra_fits(c: ConstraintNumbers) -> bool
+    ensures { λ r. ⌜ r ≡ extraByNumber c ⌝ }
 {
-    match kind {
-        ConstraintType::Invalid => 0,
-        ConstraintType::ChoiceIsInSlot => 1,
-        ConstraintType::ChoiceIsNotInSlot => 1,
-        ConstraintType::ChoicesAreInSameSlot => 2,
-        ConstraintType::ChoicesAreNotInSameSlot => 2,
-        ConstraintType::ChoicesHaveOffset => 2,
-        ConstraintType::SlotHasLimitedSize => 4,
-        ConstraintType::SlotContainsChoice => 2,
-        ConstraintType::SlotNotContainsChoice => 2,
-        ConstraintType::SlotsHaveSameChoices => 1,
-        ConstraintType::ChoicesHaveSameChoosers => 2,
-        ConstraintType::ChooserIsInChoice => 2,
-        ConstraintType::ChooserIsNotInChoice => 2,
-        ConstraintType::ChoosersHaveSameChoices => 3,
-        ConstraintType::ChoiceContainsChooser => 3,
-        ConstraintType::ChoiceNotContainsChooser => 3,
+    if c.kind < 5 {
+        return true;
     }
+    ConstraintExtra::of(c.extra_case, c.extra).case() == c.kind - 4
 }
 
-// The case of the extra that a kind reads: offset 1, operator 2, or none 0.
-fn read_case(kind: ConstraintType) -> u32
-    ensures { λ r. ⌜ r ≡ readCase kind ⌝ }
+// 9, of a scheduling constraint: 6 limits a slot's size, 1 and 2 have a slot as their target.
+fn bad_scheduling_operand(choices: u32, slots: u32, c: ConstraintNumbers) -> bool
+    ensures { λ r. ⌜ r ≡ not (schedulingByNumber choices slots c) ⌝ }
 {
-    match kind {
-        ConstraintType::Invalid => 0,
-        ConstraintType::ChoiceIsInSlot => 0,
-        ConstraintType::ChoiceIsNotInSlot => 0,
-        ConstraintType::ChoicesAreInSameSlot => 0,
-        ConstraintType::ChoicesAreNotInSameSlot => 0,
-        ConstraintType::ChoicesHaveOffset => 1,
-        ConstraintType::SlotHasLimitedSize => 2,
-        ConstraintType::SlotContainsChoice => 0,
-        ConstraintType::SlotNotContainsChoice => 0,
-        ConstraintType::SlotsHaveSameChoices => 0,
-        ConstraintType::ChoicesHaveSameChoosers => 0,
-        ConstraintType::ChooserIsInChoice => 0,
-        ConstraintType::ChooserIsNotInChoice => 0,
-        ConstraintType::ChoosersHaveSameChoices => 0,
-        ConstraintType::ChoiceContainsChooser => 0,
-        ConstraintType::ChoiceNotContainsChooser => 0,
-    }
+    let limited = c.kind == 6;
+    let inside = c.kind < 3;
+    let left = pick(limited, slots, choices);
+    let target = pick(inside, slots, choices);
+    let case = pick(limited, 4, pick(inside, 1, 2));
+    !((c.left < left) & ((c.target_case == case) & (limited | (c.target < target))) & extra_fits(c))
 }
 
-// Whether a number is one of the day's slots, choices or choosers; a limit may be any number.
-fn is_one_of(choosers: usize, choices: usize, slots: usize, case: u32, n: usize) -> bool
-    ensures { λ r. ⌜ r ≡ isOneOf choosers choices slots case n ⌝ }
+// 9, of the scheduling constraints, where 8 does not apply to them.
+pub fn bad_scheduling(choices: u32, slots: u32, day: &[u8], at: usize, count: usize) -> bool
+    requires { ⌜ at + 768 ≤ length (now day) ⌝ }
+    ensures { λ r. ⌜ r ≡ badScheduling choices slots (listIn (old day) count at) ⌝ }
 {
-    match case {
-        1 => n < slots,
-        2 => n < choices,
-        3 => n < choosers,
-        _ => case == 4,
-    }
-}
-
-fn left_fits(choosers: usize, choices: usize, slots: usize, c: Constraint) -> bool
-    ensures { λ r. ⌜ r ≡ leftFits choosers choices slots c ⌝ }
-{
-    let kind = c.kind;
-    is_one_of(choosers, choices, slots, left_case(kind), c.left)
-}
-
-fn right_fits(choosers: usize, choices: usize, slots: usize, c: Constraint) -> bool
-    ensures { λ r. ⌜ r ≡ rightFits choosers choices slots c ⌝ }
-{
-    let kind = c.kind;
-    let right = c.right;
-    let case = right_case(kind);
-    (right.case() == case) & is_one_of(choosers, choices, slots, case, right.operand())
-}
-
-fn extra_fits(c: Constraint) -> bool
-    ensures { λ r. ⌜ r ≡ extraFits c ⌝ }
-{
-    let kind = c.kind;
-    let extra = c.extra;
-    let case = read_case(kind);
-    (case == 0) | (extra.case() == case)
-}
-
-// 9, of one constraint.
-fn bad_operand(choosers: usize, choices: usize, slots: usize, c: Constraint) -> bool
-    ensures { λ r. ⌜ r ≡ badOperand choosers choices slots c ⌝ }
-{
-    !(left_fits(choosers, choices, slots, c)
-        & right_fits(choosers, choices, slots, c)
-        & extra_fits(c))
-}
-
-// 9.
-pub fn bad_operands(choosers: usize, choices: usize, slots: usize, list: ConstraintList) -> bool
-    ensures { λ r. ⌜ r ≡ badOperands choosers choices slots list ⌝ }
-{
-    let n = places(list.count);
+    let n = at_most(32, count);
     let mut bad = false;
     let mut i = 0;
     while i < n {
-        let c = list.entries[i];
-        bad = bad | bad_operand(choosers, choices, slots, c.constraint());
+        bad = bad | bad_scheduling_operand(choices, slots, numbers_at(day, at, i));
+        i += 1;
+    }
+    bad
+}
+
+// 9, of an assignment constraint: 65536 has a choice on the left, 65539 a chooser as its target.
+fn bad_assignment_operand(choosers: u32, choices: u32, c: ConstraintNumbers) -> bool
+    ensures { λ r. ⌜ r ≡ not (assignmentByNumber choosers choices c) ⌝ }
+{
+    let tied = c.kind == 65539;
+    let left = pick(c.kind == 65536, choices, choosers);
+    let target = pick(tied, choosers, choices);
+    let case = pick(tied, 3, 2);
+    !((c.left < left) & ((c.target_case == case) & (c.target < target)))
+}
+
+// 9, of the assignment constraints, where 8 does not apply to them.
+pub fn bad_assignment(choosers: u32, choices: u32, day: &[u8], at: usize, count: usize) -> bool
+    requires { ⌜ at + 768 ≤ length (now day) ⌝ }
+    ensures { λ r. ⌜ r ≡ badAssignment choosers choices (listIn (old day) count at) ⌝ }
+{
+    let n = at_most(32, count);
+    let mut bad = false;
+    let mut i = 0;
+    while i < n {
+        bad = bad | bad_assignment_operand(choosers, choices, numbers_at(day, at, i));
         i += 1;
     }
     bad

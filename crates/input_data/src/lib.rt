@@ -1,12 +1,33 @@
-// input_data.rs: the day, its limits, and checks 1 to 10 of document 01.
+// input_data.rs: the day, its limits, the bytes in which it is lent, and checks 1 to 10 of document 01.
+mod bytes;
 mod checks;
 mod constraints;
+mod decode;
 mod tables;
 
+pub use bytes::assignment_count;
+pub use bytes::choices;
+pub use bytes::choosers;
+pub use bytes::flag;
+pub use bytes::max_at;
+pub use bytes::max_preference;
+pub use bytes::min_at;
+pub use bytes::numbers_at;
+pub use bytes::optional_at;
+pub use bytes::scheduling_count;
+pub use bytes::signed;
+pub use bytes::slots;
+pub use bytes::word;
 pub use checks::Beside;
 pub use checks::day_number;
 pub use checks::first;
 pub use checks::too_many;
+pub use decode::assignment_of;
+pub use decode::day_of;
+pub use decode::maxs_of;
+pub use decode::mins_of;
+ghost use mathlib.Core.Path.{_≡_};
+ghost use Rattle.input_data.specs.Lengths.{fullDay};
 pub use tables::bad_costs;
 pub use tables::bad_levels;
 pub use tables::bad_preferences;
@@ -18,8 +39,26 @@ pub struct Limits {
     pub slots: usize,
 }
 
+// The limits of the full day's entries.
+pub fn full_day() -> Limits
+    ensures { λ r. ⌜ r ≡ fullDay ⌝ }
+{
+    Limits {
+        choosers: 64,
+        choices: 32,
+        slots: 8,
+    }
+}
+
+// A day's sizes, and the stride of its slot lists: the limit on choices.
+pub struct Sizes {
+    pub stride: usize,
+    pub choosers: usize,
+    pub choices: usize,
+    pub slots: usize,
+}
+
 // A constraint in numbers, as constraint::Constraint::of takes them.
-#[repr(C)]
 pub struct ConstraintNumbers {
     pub kind: u32,
     pub left: u32,
@@ -30,14 +69,12 @@ pub struct ConstraintNumbers {
 }
 
 // The first `count` entries are the list.
-#[repr(C)]
 pub struct ConstraintList {
     pub count: usize,
     pub entries: [ConstraintNumbers; 32],
 }
 
-// Document 01's day. Dependent groups stand one after the other in `members`; `lengths` parts them.
-#[repr(C)]
+// Document 01's day; it is lent as bytes. Dependent groups stand one after the other in `members`; `lengths` parts them.
 pub struct InputData {
     pub choosers: usize,
     pub choices: usize,

@@ -2,11 +2,14 @@
 ghost use mathlib.Core.Path.{_≡_};
 ghost use Prim.Native.Nat.{_<_};
 ghost use lib.ListN.{length};
-ghost use Rattle.input_data.specs.Checks.{badPreferences, badLevelAt, badLevels, badCost, badCosts};
+ghost use Rattle.counting.specs.Fold.{anyTo};
+ghost use Rattle.counting.specs.Lent.{old};
+ghost use Rattle.input_data.specs.Checks.{badPreferences, badLevels, badCost, badCosts};
+ghost use Rattle.input_data.specs.Levels.{descendsAt};
 
 // 4. A preference above max_preference.
 pub fn bad_preferences(most: u32, preferences: &[u32]) -> bool
-    ensures { λ r. ⌜ r ≡ badPreferences most (now (preferences .entry)) ⌝ }
+    ensures { λ r. ⌜ r ≡ badPreferences most (old preferences) ⌝ }
 {
     let mut bad = false;
     let mut i = 0;
@@ -17,29 +20,29 @@ pub fn bad_preferences(most: u32, preferences: &[u32]) -> bool
     bad
 }
 
-// A level above max_preference, or one that is not below the next.
-fn bad_level(most: u32, levels: &[u32], i: usize) -> bool
-    requires { ⌜ i < length (now levels) ⌝ }
-    ensures { λ r. ⌜ r ≡ badLevelAt most (now (levels .entry)) i ⌝ }
-{
-    let level = levels[i];
-    if i + 1 < levels.len() {
-        return (most < level) | (levels[i + 1] <= level);
-    }
-    most < level
-}
-
-// 5.
-pub fn bad_levels(most: u32, levels: &[u32]) -> bool
-    ensures { λ r. ⌜ r ≡ badLevels most (now (levels .entry)) ⌝ }
+// Whether one of the first n levels is not below the next.
+fn descends(levels: &[u32], n: usize) -> bool
+    requires { ⌜ n < length (now levels) ⌝ }
+    ensures { λ r. ⌜ r ≡ anyTo n (descendsAt (old levels)) ⌝ }
 {
     let mut bad = false;
     let mut i = 0;
-    while i < levels.len() {
-        bad = bad | bad_level(most, levels, i);
+    while i < n {
+        bad = bad | (levels[i + 1] <= levels[i]);
         i += 1;
     }
-    (256 < levels.len()) | bad
+    bad
+}
+
+// 5. Levels that ascend are at most max_preference if the last one is.
+pub fn bad_levels(most: u32, levels: &[u32]) -> bool
+    ensures { λ r. ⌜ r ≡ badLevels most (old levels) ⌝ }
+{
+    if levels.len() == 0 {
+        return false;
+    }
+    let n = levels.len() - 1;
+    (255 < n) | (most < levels[n]) | descends(levels, n)
 }
 
 fn bad_cost(cost: i64) -> bool
@@ -50,7 +53,7 @@ fn bad_cost(cost: i64) -> bool
 
 // 6.
 pub fn bad_costs(costs: &[i64]) -> bool
-    ensures { λ r. ⌜ r ≡ badCosts (now (costs .entry)) ⌝ }
+    ensures { λ r. ⌜ r ≡ badCosts (old costs) ⌝ }
 {
     let mut bad = false;
     let mut i = 0;

@@ -8,7 +8,7 @@ use lib.ListN.{getD}
 use Rattle.counting.specs.Fold.{onlyIf, joinTo}
 use Rattle.scheduling.specs.Schedule.{entryAt}
 use Rattle.schedule_state.specs.Blocks.{cell}
-use Rattle.schedule_state.specs.declared.state.Sizes.{Sizes}
+use Rattle.input_data.specs.declared.Sizes.{Sizes}
 use Rattle.mip_flow_static_data.specs.Nodes.{chooserNode, choiceNode, slotNode}
 
 -- what decides which seats are open, and what they cost

@@ -17,7 +17,7 @@ use Rattle.counting.specs.Written.{written, written-append, written-none, lengt
 use Rattle.scheduling.specs.Schedule.{entryAt}
 use Rattle.slot_lists.specs.Lists.{part-length, part-at}
 use Rattle.schedule_state.specs.Blocks.{cell}
-use Rattle.schedule_state.specs.declared.state.Sizes.{Sizes}
+use Rattle.input_data.specs.declared.Sizes.{Sizes}
 use Rattle.mip_flow_static_data.specs.Nodes.{chooserNode, choiceNode, slotNode}
 use Rattle.mip_flow.specs.Edges.{Offer, Seat, seat, preferenceOf, isBlocked, isOpen, seatAt, listedSeat, slotSeats, slotSeatsAt, chooserSeats, openSeats, placeAt, scheduled, seatFrom, seatTo, seatMax, seatCost, choiceTo, choiceMax, choiceCost}
 use Rattle.mip_flow.specs.Index.{seatCell, indexed, indexed-append, length-indexed}

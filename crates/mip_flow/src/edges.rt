@@ -1,5 +1,5 @@
 // The edges of a model: those of the open seats, then those of the scheduled choices.
-use schedule_state::Sizes;
+use input_data::Sizes;
 ghost use mathlib.Core.Path.{_≡_};
 ghost use Prim.Native.Nat.{ℕ, _+_, _*_, _<_, _≤_};
 ghost use lib.ListN.{length, getD};

@@ -6,7 +6,7 @@ use lib.Dec.{eqb}
 use lib.IntN.{ℤ, pos, negℤ, _-ℤ_}
 use Rattle.counting.specs.Fold.{tableTo}
 use Rattle.scheduling.specs.Schedule.{entryAt}
-use Rattle.schedule_state.specs.declared.state.Sizes.{Sizes}
+use Rattle.input_data.specs.declared.Sizes.{Sizes}
 
 -- chooser c in slot s
 abbrev pub chooserNode : Sizes → ℕ → ℕ → ℕ

@@ -1,5 +1,5 @@
 // mip_flow_static_data.rs: what each node of the flow model supplies. Node numbers are by formula.
-use schedule_state::Sizes;
+use input_data::Sizes;
 ghost use mathlib.Core.Path.{_≡_};
 ghost use Prim.Native.Nat.{ℕ, _+_, _*_, _<_, _≤_};
 ghost use mathlib.Core.Bool.{cond};

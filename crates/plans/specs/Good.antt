@@ -2,6 +2,7 @@
 use Prim.Native.Nat.{ℕ, _<_, _≤_}
 use mathlib.Core.Path.{_≡_, refl}
 use mathlib.Core.Bool.{Bool, true, false, _||_}
+use mathlib.Core.List.{List}
 use lib.Dec.{ltb}
 use lib.ListN.{length, getD}
 use borrow.Author.Tests.{eqb-true, ltb-false, not-false}
@@ -12,6 +13,7 @@ use Rattle.input_data.specs.declared.checks.Beside.{Beside}
 use Rattle.scheduling.specs.Schedule.{entryAt}
 use Rattle.slot_lists.specs.Held.{Held, held, misheld}
 use Rattle.schedule_state.specs.Blocks.{cell}
+use Rattle.schedule_state.specs.Bytes.{IsState}
 use Rattle.schedule_state.specs.Good.{Handed, Ready, kept-fits}
 use Rattle.schedule_state.specs.Numbers.{StateAccepted, state-accepted}
 use Rattle.schedule_state.specs.State.{coveredAt, blockedAt, unlike, miscounted, miscountedIn, miscountedAt, misblocked, misblockedRow, misblockedAt}
@@ -34,23 +36,27 @@ unlike-not false true e = never e
 unlike-not false false e = refl
 
 -- where the lengths are right, the lists have theirs
-pub handed-model : (l : Limits) (b : Beside) (size : ℕ) (tables buffers short : Bool) → Within l → b .lengths ≡ (tables || ltb size (listsLength l) || buffers || short) → Handed l b size
-handed-model l b size tables buffers short w e = record {
-  within = w;
-  room = λ f.
-      let p : ((tables || ltb size (listsLength l) || buffers) ≡ false) × (short ≡ false) = or-split (rw e at f) in
-      let q : ((tables || ltb size (listsLength l)) ≡ false) × (buffers ≡ false) = or-split (p .0) in
-      let r : (tables ≡ false) × (ltb size (listsLength l) ≡ false) = or-split (q .0) in
-      ltb-false size (listsLength l) (r .1);
-}
+lists-long : (size most : ℕ) (tables buffers short : Bool) → (tables || ltb size most || buffers || short) ≡ false → most ≤ size
+lists-long size most tables buffers short e =
+    let p : ((tables || ltb size most || buffers) ≡ false) × (short ≡ false) = or-split e in
+    let q : ((tables || ltb size most) ≡ false) × (buffers ≡ false) = or-split (p .0) in
+    let r : (tables ≡ false) × (ltb size most ≡ false) = or-split (q .0) in
+    ltb-false size most (r .1)
+
+-- .. and so has a state that is lent as bytes; `wrong`: it has not
+pub handed-model : (l : Limits) (b : Beside) (st : List ℕ) (size : ℕ) (wrong tables buffers short : Bool) → Within l → (wrong ≡ false → IsState st)
+    → b .lengths ≡ (wrong || (tables || ltb size (listsLength l) || buffers || short)) → Handed l b st size
+handed-model l b st size wrong tables buffers short w h e =
+    let parts : b .lengths ≡ false → (wrong ≡ false) × ((tables || ltb size (listsLength l) || buffers || short) ≡ false) = λ f. or-split (rw e at f) in
+    record { within = w; state = λ f. h (parts f .0); room = λ f. lists-long size (listsLength l) tables buffers short (parts f .1) }
+
+-- the lists' length is one of the lengths that these calls test
+pub model-room : (l : Limits) (x : ModelInput) (lens : Lengths) (short : Bool) → besideModel l x lens short .lengths ≡ false → listsLength l ≤ length (x .lists)
+model-room l x lens short e = lists-long (length (x .lists)) (listsLength l) (wrongTables x) (shortBuffers l lens) short e
 
 module _ (l : Limits) (x : ModelInput) (lens : Lengths) (short : Bool) (w : Within l) (e : numberWith l x lens short ≡ 0) where
-  -- the lists' length is one of the lengths that these calls test
-  handed : Handed l (besideModel l x lens short) (length (x .lists))
-  handed = handed-model l (besideModel l x lens short) (length (x .lists)) (wrongTables x) (shortBuffers l lens) short w refl
-
-  pub model-accepted : StateAccepted l (x .day) (x .state) (besideModel l x lens short) (x .lists)
-  model-accepted = state-accepted l (x .day) (x .state) (besideModel l x lens short) (x .lists) handed e
+  pub model-accepted : StateAccepted l (x .day) (x .state) (besideModel l x lens short) false (x .lists)
+  model-accepted = state-accepted l (x .day) (x .state) (besideModel l x lens short) false (x .lists) w (model-room l x lens short) e
 
   abbrev held-ill : Bool
   held-ill = misheld (l .choices) (entryAt (scheduleOf x)) (x .day .choices) (x .day .slots) (x .lists)

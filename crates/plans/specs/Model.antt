@@ -14,8 +14,8 @@ use Rattle.input_data.specs.declared.checks.Beside.{Beside}
 use Rattle.scheduling.specs.Schedule.{entryAt}
 use Rattle.slot_lists.specs.Lists.{listed}
 use Rattle.schedule_state.specs.Calls.{stateNumber, slotListLength}
-use Rattle.schedule_state.specs.State.{keptOf}
-use Rattle.schedule_state.specs.declared.state.Sizes.{Sizes}
+use Rattle.scheduling.specs.Handed.{keptOf}
+use Rattle.input_data.specs.declared.Sizes.{Sizes}
 use Rattle.schedule_state.specs.declared.AssignmentScheduleState.{AssignmentScheduleState}
 use Rattle.mip_flow_static_data.specs.Nodes.{supplies}
 use Rattle.mip_flow.specs.Edges.{Offer, offer, Seat, openSeats, scheduled, edgesFrom, edgesTo, edgesMax, edgesCost}
@@ -103,7 +103,7 @@ besideModel l x lens short = record {
 }
 
 abbrev pub numberWith : Limits → ModelInput → Lengths → Bool → ℕ
-numberWith l x lens short = stateNumber l (x .day) (x .state) (besideModel l x lens short) (x .lists)
+numberWith l x lens short = stateNumber l (x .day) (x .state) (besideModel l x lens short) false (x .lists)
 
 -- building the model
 abbrev pub modelNumber : Limits → ModelInput → Lengths → ℕ

@@ -9,7 +9,7 @@ use lib.Dec.{eqb, ltb}
 use lib.IntN.{ℤ, pos, negsuc}
 use lib.Signed.{mag, nonNeg}
 use lib.ListN.{length, getD}
-use borrow.Author.Tests.{eqb-true, eqb-false, eq-eqb, ne-eqb, ltb-true, ltb-false, lt-ltb, not-true, not-false}
+use borrow.Author.Tests.{eqb-true, eqb-false, eq-eqb, ne-eqb, ltb-true, lt-ltb, not-true, not-false}
 use Rattle.counting.specs.Fold.{foldTo, gate, onlyIf, joinTo}
 use Rattle.counting.specs.Holds.{holds-in, holds-has}
 use Rattle.counting.specs.Signed.{eqZ-same, same-eqZ}
@@ -18,25 +18,25 @@ use Rattle.constraint.specs.Cases.{targetOperand}
 use Rattle.constraint.specs.Kind.{kindNumber}
 use Rattle.constraint.specs.declared.Constraint.{Constraint}
 use Rattle.input_data.specs.Day.{constraintAt}
-use Rattle.input_data.specs.Lengths.{Within, listsLength}
+use Rattle.input_data.specs.Lengths.{Within}
 use Rattle.input_data.specs.declared.Limits.{Limits}
 use Rattle.input_data.specs.declared.InputData.{InputData}
 use Rattle.scheduling.specs.Schedule.{entryAt}
 use Rattle.slot_lists.specs.Held.{Held, held, misheld}
 use Rattle.slot_lists.specs.Lists.{listed}
 use Rattle.slot_lists.specs.Sums.{one, weighed}
-use Rattle.schedule_state.specs.Good.{Handed, kept-fits}
+use Rattle.schedule_state.specs.Good.{kept-fits}
 use Rattle.schedule_state.specs.Blocks.{blockedBy}
 use Rattle.schedule_state.specs.State.{miscounted, misblocked}
-use Rattle.schedule_state.specs.Numbers.{StateAccepted, state-accepted}
-use Rattle.schedule_state.specs.declared.state.Sizes.{Sizes}
+use Rattle.schedule_state.specs.Numbers.{StateAccepted}
+use Rattle.input_data.specs.declared.Sizes.{Sizes}
 use Rattle.mip_flow.specs.Index.{edgeOf}
-use Rattle.mip_flow.specs.Lengths.{shortBuffers}
 use Rattle.mip_flow.specs.declared.Lengths.{Lengths}
 use Rattle.edge_groups.specs.Groups.{each, allThere, present, groupsOf, blockedOf}
 use Rattle.edge_groups.specs.Names.{pairNames, slotNames, slotNamesAt, sameChoicesNames, constraintNames, constraintNamesAt, constraintsNames, memberNameAt, chooserNames, chooserNamesAt, groupNames, groupNamesAt, startOf, dependentNames, names}
 use Rattle.edge_values.specs.Values.{valueAt, usedAt, someUsed, differ, differsAt, isUneven, unevenAt, someUneven}
-use Rattle.plans.specs.Model.{ModelInput, sizesOf, scheduleOf, seatsOf, namesOf, networkOf, wrongTables, besideModel, numberWith}
+use Rattle.plans.specs.Good.{model-accepted}
+use Rattle.plans.specs.Model.{ModelInput, sizesOf, scheduleOf, seatsOf, namesOf, networkOf, besideModel, numberWith}
 use Rattle.plans.specs.Read.{read, ReadTogether}
 
 -- ---- what holds of every element of a list
@@ -288,18 +288,8 @@ module _ (R : ℕ → ℕ) (edge : ℕ → ℕ → ℕ) (l : Limits) (d : InputD
 -- ---- of a model that can be built
 
 module _ (l : Limits) (x : ModelInput) (lens : Lengths) (short : Bool) (w : Within l) (e : numberWith l x lens short ≡ 0) where
-  handed : Handed l (besideModel l x lens short) (length (x .lists))
-  handed = record {
-    within = w;
-    room = λ t.
-        let a : ((wrongTables x || ltb (length (x .lists)) (listsLength l) || shortBuffers l lens) ≡ false) × (short ≡ false) = or-split t in
-        let b : ((wrongTables x || ltb (length (x .lists)) (listsLength l)) ≡ false) × (shortBuffers l lens ≡ false) = or-split (a .0) in
-        let c : (wrongTables x ≡ false) × (ltb (length (x .lists)) (listsLength l) ≡ false) = or-split (b .0) in
-        ltb-false (length (x .lists)) (listsLength l) (c .1);
-  }
-
-  state : StateAccepted l (x .day) (x .state) (besideModel l x lens short) (x .lists)
-  state = state-accepted l (x .day) (x .state) (besideModel l x lens short) (x .lists) handed e
+  state : StateAccepted l (x .day) (x .state) (besideModel l x lens short) false (x .lists)
+  state = model-accepted l x lens short w e
 
   lists-held : Held (l .choices) (entryAt (scheduleOf x)) (x .day .choices) (x .day .slots) (x .lists)
   lists-held =

@@ -57,17 +57,25 @@ fn row_of_two(left: Score, right: Score) {
 
 // In a cycle the best hangs on the order: the first is kept until a later one is less.
 fn row_of_best() {
-    let mut scores = [first(); 64];
-    scores[1] = second();
-    scores[2] = third();
+    let one = first();
+    let two = second();
+    let three = third();
     say(b"best of ");
-    say_score(scores[0]);
+    say_score(one);
     say(b", ");
-    say_score(scores[1]);
+    say_score(two);
     say(b", ");
-    say_score(scores[2]);
+    say_score(three);
     say(b": ");
-    let best = score::best(scores, 3).best;
+    let floats = [
+        one.major,
+        one.minor,
+        two.major,
+        two.minor,
+        three.major,
+        three.minor,
+    ];
+    let best = score::best(&floats, 3).best;
     match best {
         BestScore::None => say(b"none"),
         BestScore::At(ranked) => {

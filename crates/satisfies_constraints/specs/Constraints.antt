@@ -59,9 +59,13 @@ meetsScheduling choices sch c = meetsSchedule choices sch (kindNumber (c .kind))
 abbrev pub schedulingAt : ℕ → List ℕ → ConstraintList → ℕ → Bool
 schedulingAt choices sch l j = meetsScheduling choices sch (constraintAt l j)
 
+-- every constraint of a list
+abbrev pub schedulingIn : ℕ → List ℕ → ConstraintList → Bool
+schedulingIn choices sch l = allTo (l .count) (schedulingAt choices sch l)
+
 -- satisfies_constraints_scheduling
 unfoldable pub schedulingMet : InputData → List ℕ → Bool
-schedulingMet d sch = allTo (d .scheduling .count) (schedulingAt (d .choices) sch (d .scheduling))
+schedulingMet d sch = schedulingIn (d .choices) sch (d .scheduling)
 
 -- ---- assignment constraints
 
@@ -97,6 +101,10 @@ meetsAssignment choosers choices slots sch plan c = meetsPlan choosers choices s
 abbrev pub assignmentAt : ℕ → ℕ → ℕ → List ℕ → List ℕ → ConstraintList → ℕ → Bool
 assignmentAt choosers choices slots sch plan l j = meetsAssignment choosers choices slots sch plan (constraintAt l j)
 
+-- every constraint of a list
+abbrev pub assignmentIn : ℕ → ℕ → ℕ → List ℕ → List ℕ → ConstraintList → Bool
+assignmentIn choosers choices slots sch plan l = allTo (l .count) (assignmentAt choosers choices slots sch plan l)
+
 -- satisfies_constraints_assignment
 unfoldable pub assignmentMet : InputData → List ℕ → List ℕ → Bool
-assignmentMet d sch plan = allTo (d .assignment .count) (assignmentAt (d .choosers) (d .choices) (d .slots) sch plan (d .assignment))
+assignmentMet d sch plan = assignmentIn (d .choosers) (d .choices) (d .slots) sch plan (d .assignment)

@@ -7,7 +7,7 @@ use mathlib.Core.Logic.{_≢_}
 use native.Mathlib.Omega.{arith}
 use lib.Dec.{eqb}
 use lib.IntN.{ℤ, pos, _-ℤ_}
-use lib.ListN.{replicate, replicate-append-replicate}
+use lib.ListN.{length, replicate, replicate-append-replicate}
 use borrow.Author.Tests.{eqb-true, eq-eqb, ne-eqb}
 use Rattle.assignment.specs.Laws.{row-end}
 use Rattle.assignment.specs.Plan.{isScheduled, isSeat, row, rosterRow, choosersOrdered, choiceRow, choicesOrdered}
@@ -15,12 +15,19 @@ use Rattle.constraint.specs.Cases.{targetOperand}
 use Rattle.constraint.specs.Kind.{kindNumber}
 use Rattle.counting.specs.Fold.{foldTo, fold-more, fold-ext, gate, sumTo, countTo, allTo, onlyIf, joinTo}
 use Rattle.counting.specs.Ints.{eqZ}
+use Rattle.counting.specs.Holds.{isOf}
 use Rattle.counting.specs.Sums.{sum-only}
+use native.Mathlib.Numerals.{add-one}
 use Rattle.counting.specs.Tests.{bool-cases, eq-cases, all-each, each-all}
-use Rattle.input_data.specs.Day.{constraintAt}
+use Rattle.input_data.specs.Bytes.{IsDay, dayOf}
+use Rattle.input_data.specs.Day.{constraintAt, constraintOfNumbers}
+use Rattle.input_data.specs.Numbered.{AsNumbers, WithExtra, Numbered}
+use Rattle.input_data.specs.declared.ConstraintNumbers.{ConstraintNumbers}
 use Rattle.input_data.specs.declared.ConstraintList.{ConstraintList}
-use Rattle.scheduling.specs.Schedule.{entryAt, ofEntry, of-none, of-slot}
-use Rattle.satisfies_constraints.specs.Constraints.{hasOffset, meetsSchedule, timesIn, sameChoosers, sameChoices, meetsPlan}
+use Rattle.scheduling.specs.Schedule.{entryAt, ofEntry, of-none, of-slot, slotIn}
+use Rattle.scheduling.specs.declared.SlotOf.{SlotOf}
+use Rattle.scheduling.specs.declared.SlotOf.the-variants as SlotOf
+use Rattle.satisfies_constraints.specs.Constraints.{hasOffset, sizeOf, meetsSchedule, meetsScheduling, timesIn, sameChoosers, sameChoices, meetsPlan, meetsAssignment}
 
 -- a plan has room for so many seats
 pub record InPlan (choosers slots size : ℕ) : Type 0 where
@@ -39,6 +46,23 @@ pub record ListIn (choosers : ℕ) (l : ConstraintList) : Type 0 where
   pub count : l .count ≤ 32
   pub each : (j : ℕ) → j < l .count → OperandsIn choosers (kindNumber (constraintAt l j .kind)) (constraintAt l j .left) (targetOperand (constraintAt l j .right))
 
+-- what is left after kind 5 names a slot, which is a byte
+abbrev pub SlotLeft : ℕ → ℕ → Type 0
+SlotLeft kind left = kind ≢ 1 → kind ≢ 2 → kind ≢ 3 → kind ≢ 4 → kind ≢ 5 → left < 255
+
+-- a list of a lent day whose constraints are told by their numbers
+pub record ListRead (P : ConstraintNumbers → Type 0) (day : List ℕ) (l : ConstraintList) : Type 0 where
+  pub long : IsDay day
+  pub count : l .count ≤ 32
+  pub numbers : Numbered P l
+
+-- what the test of a plan asks of the lent day, its schedule and the plan
+pub record PlanRead (choosers slots : ℕ) (sch plan day : List ℕ) : Type 0 where
+  pub read : ListRead AsNumbers day (dayOf day .assignment)
+  pub list : ListIn choosers (dayOf day .assignment)
+  pub inside : InPlan choosers slots (length plan)
+  pub entries : length sch ≡ 32
+
 -- the row of a chooser of the day is in the plan
 pub row-in : {choosers slots size c : ℕ} → InPlan choosers slots size → c < choosers → (slots ≤ 8) × (c < 64) × (c * slots + slots ≤ size)
 row-in {slots = slots} p h = (p .short, omega (arith, p .few), omega (arith, row-end slots h, p .inside))
@@ -51,14 +75,23 @@ sum-more i f p q = rw (fold-more _+_ 0 i f, p, q)
 
 -- ---- entries
 
--- an entry names slot s
-pub names-none : (e s : ℕ) → e ≡ 0 → false ≡ eqb e (suc s)
-names-none e s z = sym (ne-eqb e (suc s) (λ q. omega arith))
+-- the entry that says so
+abbrev entryOf : SlotOf → ℕ
+entryOf SlotOf.None = 0
+entryOf (SlotOf.Slot s) = suc s
 
-pub names-slot : (e s : ℕ) → e ≢ 0 → eqb (e - 1) s ≡ eqb e (suc s)
-names-slot e s n = eq-cases e (suc s)
-    (λ p t. eq-eqb (e - 1) s (omega arith) ∙ sym t)
-    (λ p t. ne-eqb (e - 1) s (λ q. p (omega arith)) ∙ sym t)
+entry-in : (e : ℕ) → entryOf (slotIn e) ≡ e
+entry-in zero = refl
+entry-in (suc s) = refl
+
+-- an entry names slot s
+pub names-none : (e s : ℕ) {r : SlotOf} → r ≡ slotIn e → r ≡ SlotOf.None → false ≡ eqb e (suc s)
+names-none e s p q = let z : e ≡ 0 = sym (entry-in e) ∙ ap entryOf (sym p ∙ q) in sym (ne-eqb e (suc s) (λ w. omega arith))
+
+pub names-slot : (e s t : ℕ) {r : SlotOf} → r ≡ slotIn e → r ≡ SlotOf.Slot t → eqb t s ≡ eqb e (suc s)
+names-slot e s t p q =
+    let z : e ≡ suc t = sym (entry-in e) ∙ ap entryOf (sym p ∙ q) in
+    eq-cases t s (λ w u. u ∙ sym (eq-eqb e (suc s) (omega arith))) (λ w u. u ∙ sym (ne-eqb e (suc s) (λ v. w (omega arith))))
 
 -- an offset: left has no slot, right alone has none, both have one
 pub offset-none : (left right : ℕ) (z : ℤ) → left ≡ 0 → eqb right 0 ≡ hasOffset left right z
@@ -159,3 +192,32 @@ same-choices-ordered choices slots plan a b e = choices-copies choices slots pla
 pub ordered-same-choices : (choices slots : ℕ) (plan : List ℕ) (a b : ℕ) → choicesOrdered choices slots plan a ≡ choicesOrdered choices slots plan b → sameChoices choices slots plan a b ≡ true
 unfolding sameChoices
 ordered-same-choices choices slots plan a b e = same-copies choices (timesIn slots plan a) (timesIn slots plan b) (sym (choices-copies choices slots plan a) ∙ e ∙ choices-copies choices slots plan b)
+
+-- ---- constraints by their numbers
+
+-- kinds 1 to 4 do not read the extra
+schedule-extra : (choices : ℕ) (sch : List ℕ) (left kind right : ℕ) {z z′ : ℤ} → (kind ≢ 1 → kind ≢ 2 → kind ≢ 3 → kind ≢ 4 → z ≡ z′) → meetsSchedule choices sch kind left right z ≡ meetsSchedule choices sch kind left right z′
+unfolding meetsSchedule
+schedule-extra choices sch left kind right h =
+    eq-cases kind 1 (λ q e. rw e) (λ q₁ e₁.
+    eq-cases kind 2 (λ q e. rw (e₁, e)) (λ q₂ e₂.
+    eq-cases kind 3 (λ q e. rw (e₁, e₂, e)) (λ q₃ e₃.
+    eq-cases kind 4 (λ q e. rw (e₁, e₂, e₃, e)) (λ q₄ e₄. rw (h q₁ q₂ q₃ q₄)))))
+
+-- a scheduling constraint
+pub schedule-numbers : (choices : ℕ) (sch : List ℕ) (c : ConstraintNumbers) → WithExtra c → meetsSchedule choices sch (c .kind) (c .left) (c .target) (c .extra) ≡ meetsScheduling choices sch (constraintOfNumbers c)
+schedule-numbers choices sch c p = sym (schedule-eq choices sch (c .left) (p .numbers .kind) (p .numbers .target) refl ∙ schedule-extra choices sch (c .left) (c .kind) (c .target) (p .extra))
+
+-- an assignment constraint
+pub plan-numbers : (choosers choices slots : ℕ) (sch plan : List ℕ) (c : ConstraintNumbers) → AsNumbers c → meetsPlan choosers choices slots sch plan (c .kind) (c .left) (c .target) ≡ meetsAssignment choosers choices slots sch plan (constraintOfNumbers c)
+plan-numbers choosers choices slots sch plan c p = sym (plan-eq choosers choices slots sch plan (c .left) (p .kind) (p .target))
+
+-- .. whose choosers are of the day
+pub operands-numbers : (choosers : ℕ) (c : ConstraintNumbers) → AsNumbers c → OperandsIn choosers (kindNumber (constraintOfNumbers c .kind)) (constraintOfNumbers c .left) (targetOperand (constraintOfNumbers c .right)) → OperandsIn choosers (c .kind) (c .left) (c .target)
+operands-numbers choosers c p o = rw (p .kind, p .target) at o
+
+-- ---- counting entries
+
+-- an entry names slot s where it is s + 1
+pub size-count : (choices : ℕ) (sch : List ℕ) (s want : ℕ) → want ≡ s + 1 → countTo choices (isOf (entryAt sch) want) ≡ sizeOf choices sch s
+size-count choices sch s want e = rw (e, add-one s)

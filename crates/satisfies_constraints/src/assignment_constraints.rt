@@ -1,16 +1,14 @@
 // The assignment constraints of a day, tested on a schedule and a plan.
 use crate::scheduling_constraints::entry_of;
-use constraint::Constraint;
-use input_data::ConstraintList;
 ghost use mathlib.Core.Path.{_≡_};
 ghost use Prim.Native.Nat.{_+_, _*_, _<_, _≤_};
 ghost use lib.ListN.{length};
-ghost use Rattle.counting.specs.Fold.{gate, allTo};
+ghost use Rattle.counting.specs.Fold.{gate};
+ghost use Rattle.counting.specs.Lent.{old};
+ghost use Rattle.input_data.specs.Bytes.{dayOf};
 ghost use Rattle.assignment.specs.Plan.{isInChoice};
-ghost use Rattle.constraint.specs.Kind.{kindNumber};
-ghost use Rattle.constraint.specs.Cases.{targetOperand};
-ghost use Rattle.satisfies_constraints.specs.Constraints.{timesIn, sameChoosers, sameChoices, meetsPlan, meetsAssignment, assignmentAt};
-ghost use Rattle.satisfies_constraints.specs.Laws.{InPlan, OperandsIn, ListIn};
+ghost use Rattle.satisfies_constraints.specs.Constraints.{timesIn, sameChoosers, sameChoices, meetsPlan, assignmentIn};
+ghost use Rattle.satisfies_constraints.specs.Laws.{InPlan, OperandsIn, PlanRead};
 
 fn once(seated: bool) -> u32
     ensures { λ r. ⌜ (r ≡ gate seated 1) × (r ≤ 1) ⌝ }
@@ -24,7 +22,7 @@ fn once(seated: bool) -> u32
 // How often a chooser has a choice.
 pub fn times_in(slots: usize, plan: &[u8], chooser: usize, choice: usize) -> u32
     requires { ⌜ (slots ≤ 8) × (chooser < 64) × (chooser * slots + slots ≤ length (now plan)) ⌝ }
-    ensures { λ r. ⌜ r ≡ timesIn slots (now (plan .entry)) chooser choice ⌝ }
+    ensures { λ r. ⌜ r ≡ timesIn slots (old plan) chooser choice ⌝ }
 {
     let base = chooser * slots;
     let mut times = 0;
@@ -39,7 +37,7 @@ pub fn times_in(slots: usize, plan: &[u8], chooser: usize, choice: usize) -> u32
 // Whether two choices have the same choosers, each as often.
 fn same_choosers(choosers: usize, slots: usize, plan: &[u8], a: usize, b: usize) -> bool
     requires { ⌜ InPlan choosers slots (length (now plan)) ⌝ }
-    ensures { λ r. ⌜ r ≡ sameChoosers choosers slots (now (plan .entry)) a b ⌝ }
+    ensures { λ r. ⌜ r ≡ sameChoosers choosers slots (old plan) a b ⌝ }
 {
     let mut same = true;
     let mut c = 0;
@@ -60,7 +58,7 @@ fn same_choices(
     b: usize,
 ) -> bool
     requires { ⌜ InPlan choosers slots (length (now plan)) × (a < choosers) × (b < choosers) ⌝ }
-    ensures { λ r. ⌜ r ≡ sameChoices choices slots (now (plan .entry)) a b ⌝ }
+    ensures { λ r. ⌜ r ≡ sameChoices choices slots (old plan) a b ⌝ }
 {
     let mut same = true;
     let mut k = 0;
@@ -74,7 +72,7 @@ fn same_choices(
 // Whether a chooser has a choice in some slot.
 fn is_in(slots: usize, plan: &[u8], chooser: usize, choice: usize) -> bool
     requires { ⌜ (slots ≤ 8) × (chooser < 64) × (chooser * slots + slots ≤ length (now plan)) ⌝ }
-    ensures { λ r. ⌜ r ≡ isInChoice slots (now (plan .entry)) chooser choice ⌝ }
+    ensures { λ r. ⌜ r ≡ isInChoice slots (old plan) chooser choice ⌝ }
 {
     assignment::has_seat(slots, plan, chooser * slots, choice)
 }
@@ -91,7 +89,7 @@ fn meets_plan(
     right: usize,
 ) -> bool
     requires { ⌜ InPlan choosers slots (length (now plan)) × (length (now entries) ≡ 32) × OperandsIn choosers kind left right ⌝ }
-    ensures { λ r. ⌜ r ≡ meetsPlan choosers choices slots (now (entries .entry)) (now (plan .entry)) kind left right ⌝ }
+    ensures { λ r. ⌜ r ≡ meetsPlan choosers choices slots (old entries) (old plan) kind left right ⌝ }
 {
     let scheduled = entry_of(entries, right) != 0;
     if kind == 65536 {
@@ -109,49 +107,36 @@ fn meets_plan(
     same_choices(choosers, choices, slots, plan, left, right)
 }
 
-fn meets_assignment(
-    choosers: usize,
-    choices: usize,
-    slots: usize,
-    entries: &[u8; 32],
-    plan: &[u8],
-    c: Constraint,
-) -> bool
-    requires { ⌜ InPlan choosers slots (length (now plan)) × (length (now entries) ≡ 32) × OperandsIn choosers (kindNumber (c .kind)) (c .left) (targetOperand (c .right)) ⌝ }
-    ensures { λ r. ⌜ r ≡ meetsAssignment choosers choices slots (now (entries .entry)) (now (plan .entry)) c ⌝ }
-{
-    let kind = c.kind;
-    let right = c.right;
-    meets_plan(
-        choosers,
-        choices,
-        slots,
-        entries,
-        plan,
-        kind.number(),
-        c.left,
-        right.operand(),
-    )
-}
-
-// Whether a plan meets every constraint of a list.
+// Whether a plan meets every assignment constraint of the day.
 pub fn assignment_met(
     choosers: usize,
     choices: usize,
     slots: usize,
     entries: &[u8; 32],
     plan: &[u8],
-    list: ConstraintList,
+    day: &[u8],
 ) -> bool
-    requires { ⌜ InPlan choosers slots (length (now plan)) × (length (now entries) ≡ 32) × ListIn choosers list ⌝ }
-    ensures { λ r. ⌜ r ≡ allTo (list .count) (assignmentAt choosers choices slots (now (entries .entry)) (now (plan .entry)) list) ⌝ }
+    requires { ⌜ PlanRead choosers slots (now entries) (now plan) (now day) ⌝ }
+    ensures { λ r. ⌜ r ≡ assignmentIn choosers choices slots (old entries) (old plan) (dayOf (old day) .assignment) ⌝ }
 {
-    let count = list.count;
+    let count = input_data::assignment_count(day);
     let mut met = true;
     let mut j = 0;
     while j < count {
-        let c = list.entries[j];
-        met = met & meets_assignment(choosers, choices, slots, entries, plan, c.constraint());
+        let c = input_data::numbers_at(day, 1276, j);
+        let left = c.left as usize;
+        let target = c.target as usize;
+        met = met
+            & meets_plan(
+                choosers,
+                choices,
+                slots,
+                entries,
+                plan,
+                c.kind,
+                left,
+                target,
+            );
         j += 1;
     }
     met

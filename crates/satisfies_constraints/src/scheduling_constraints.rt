@@ -1,18 +1,22 @@
 // The scheduling constraints of a day, tested on a schedule.
-use constraint::Constraint;
-use input_data::ConstraintList;
+use scheduling::SlotOf;
 ghost use mathlib.Core.Path.{_≡_};
-ghost use Prim.Native.Nat.{suc, _≤_};
+ghost use Prim.Native.Nat.{suc, _<_, _≤_};
 ghost use lib.ListN.{length};
-ghost use Rattle.counting.specs.Fold.{gate, allTo};
+ghost use Rattle.counting.specs.Fold.{gate, countTo};
+ghost use Rattle.counting.specs.Holds.{isOf};
+ghost use Rattle.counting.specs.Lent.{old};
+ghost use Rattle.input_data.specs.Bytes.{dayOf};
+ghost use Rattle.input_data.specs.Numbered.{WithExtra};
 ghost use Rattle.scheduling.specs.Schedule.{entryAt};
 ghost use lib.Dec.{eqb};
-ghost use Rattle.satisfies_constraints.specs.Constraints.{apart, hasOffset, hasSize, sizeOf, meetsSchedule, meetsScheduling, schedulingAt};
+ghost use Rattle.satisfies_constraints.specs.Constraints.{apart, hasOffset, hasSize, sizeOf, meetsSchedule, schedulingIn};
+ghost use Rattle.satisfies_constraints.specs.Laws.{SlotLeft, ListRead};
 
 // The entry of a choice, or none.
 pub fn entry_of(entries: &[u8; 32], k: usize) -> u8
     requires { ⌜ length (now entries) ≡ 32 ⌝ }
-    ensures { λ r. ⌜ r ≡ entryAt (now (entries .entry)) k ⌝ }
+    ensures { λ r. ⌜ r ≡ entryAt (old entries) k ⌝ }
 {
     if k < 32 {
         return entries[k];
@@ -24,10 +28,11 @@ pub fn entry_of(entries: &[u8; 32], k: usize) -> u8
 fn names(entry: u8, slot: usize) -> bool
     ensures { λ r. ⌜ r ≡ eqb entry (suc slot) ⌝ }
 {
-    if entry == 0 {
-        return false;
+    let named = scheduling::slot_in(entry);
+    match named {
+        SlotOf::None => false,
+        SlotOf::Slot(s) => s == slot,
     }
-    (entry - 1) as usize == slot
 }
 
 fn are_apart(a: u8, b: u8) -> bool
@@ -64,7 +69,7 @@ fn has_size(op: i32, count: usize, limit: usize) -> bool
     }
 }
 
-fn counted(names: bool) -> usize
+fn counted(names: bool) -> u8
     ensures { λ r. ⌜ (r ≡ gate names 1) × (r ≤ 1) ⌝ }
 {
     if names {
@@ -73,18 +78,26 @@ fn counted(names: bool) -> usize
     0
 }
 
-// How many choices a slot has.
-fn size_of(choices: usize, entries: &[u8; 32], slot: usize) -> usize
+// How many of the first entries are `want`. All is in bytes, so that the walk is quick.
+fn count_entries(choices: usize, entries: &[u8; 32], want: u8) -> u8
     requires { ⌜ choices ≤ 32 ⌝ }
-    ensures { λ r. ⌜ r ≡ sizeOf choices (now (entries .entry)) slot ⌝ }
+    ensures { λ r. ⌜ (r ≡ countTo choices (isOf (entryAt (old entries)) want)) × (r ≤ 32) ⌝ }
 {
     let mut size = 0;
     let mut k = 0;
     while k < choices {
-        size += counted(names(entries[k], slot));
+        size += counted(entries[k] == want);
         k += 1;
     }
     size
+}
+
+// How many choices a slot has.
+fn size_of(choices: usize, entries: &[u8; 32], slot: usize) -> usize
+    requires { ⌜ (choices ≤ 32) × (slot < 255) ⌝ }
+    ensures { λ r. ⌜ r ≡ sizeOf choices (old entries) slot ⌝ }
+{
+    count_entries(choices, entries, slot as u8 + 1) as usize
 }
 
 // The test of one constraint, by its kind's number.
@@ -96,8 +109,8 @@ fn meets_schedule(
     right: usize,
     extra: i32,
 ) -> bool
-    requires { ⌜ (choices ≤ 32) × (length (now entries) ≡ 32) ⌝ }
-    ensures { λ r. ⌜ r ≡ meetsSchedule choices (now (entries .entry)) kind left right extra ⌝ }
+    requires { ⌜ (choices ≤ 32) × (length (now entries) ≡ 32) × SlotLeft kind left ⌝ }
+    ensures { λ r. ⌜ r ≡ meetsSchedule choices (old entries) kind left right extra ⌝ }
 {
     let a = entry_of(entries, left);
     let b = entry_of(entries, right);
@@ -119,34 +132,20 @@ fn meets_schedule(
     has_size(extra, size_of(choices, entries, left), right)
 }
 
-fn meets_scheduling(choices: usize, entries: &[u8; 32], c: Constraint) -> bool
-    requires { ⌜ (choices ≤ 32) × (length (now entries) ≡ 32) ⌝ }
-    ensures { λ r. ⌜ r ≡ meetsScheduling choices (now (entries .entry)) c ⌝ }
+// Whether a schedule meets every scheduling constraint of the day. The numbers are read where they lie:
+// those of accepted constraints are taken as they stand.
+pub fn scheduling_met(choices: usize, entries: &[u8; 32], day: &[u8]) -> bool
+    requires { ⌜ (choices ≤ 32) × (length (now entries) ≡ 32) × ListRead WithExtra (now day) (dayOf (now day) .scheduling) ⌝ }
+    ensures { λ r. ⌜ r ≡ schedulingIn choices (old entries) (dayOf (old day) .scheduling) ⌝ }
 {
-    let kind = c.kind;
-    let right = c.right;
-    let extra = c.extra;
-    meets_schedule(
-        choices,
-        entries,
-        kind.number(),
-        c.left,
-        right.operand(),
-        extra.operand(),
-    )
-}
-
-// Whether a schedule meets every constraint of a list.
-pub fn scheduling_met(choices: usize, entries: &[u8; 32], list: ConstraintList) -> bool
-    requires { ⌜ (choices ≤ 32) × (length (now entries) ≡ 32) × (list .count ≤ 32) ⌝ }
-    ensures { λ r. ⌜ r ≡ allTo (list .count) (schedulingAt choices (now (entries .entry)) list) ⌝ }
-{
-    let count = list.count;
+    let count = input_data::scheduling_count(day);
     let mut met = true;
     let mut j = 0;
     while j < count {
-        let c = list.entries[j];
-        met = met & meets_scheduling(choices, entries, c.constraint());
+        let c = input_data::numbers_at(day, 508, j);
+        let left = c.left as usize;
+        let target = c.target as usize;
+        met = met & meets_schedule(choices, entries, c.kind, left, target, c.extra);
         j += 1;
     }
     met

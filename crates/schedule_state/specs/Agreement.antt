@@ -1,10 +1,11 @@
 -- The first half of demand 3: what is carried from schedule to schedule agrees with a fresh build.
 -- Statement only; the proof is `carried-agrees` in CarriedAgrees.antt.
 --
--- It rests on the contracts of `build` and `update` in src/state.rt, which cite the definitions used here:
+-- It rests on the contracts of `build` and `update` in src/state.rt, the promises Built and Updated of Calls.antt, which cite the definitions used here:
 --   build    gives buildNumber, and where that is 0 the state builtState and the slot lists builtLists
 --   update   gives updateNumber, and where that is 0 the state updatedState and the slot lists updatedLists
--- both at fullDay; where the number is not 0 they leave the lent buffer as it was.
+-- both at fullDay, of the day, state and schedule that the lent bytes stand for, where all bytes have their lengths
+-- (else 1 or 2, by lentNumber); where the number is not 0 they leave the lent buffer as it was.
 use Prim.Native.Nat.{ℕ, _<_, _≤_}
 use mathlib.Core.Path.{_≡_}
 use mathlib.Core.Bool.{Bool, cond}
@@ -15,9 +16,10 @@ use Rattle.counting.specs.Fold.{anyTo}
 use Rattle.input_data.specs.Checks.{firstOf}
 use Rattle.input_data.specs.Lengths.{fullDay, listsLength}
 use Rattle.input_data.specs.declared.InputData.{InputData}
+use Rattle.scheduling.specs.Handed.{outside}
 use Rattle.scheduling.specs.declared.Scheduling.{Scheduling}
 use Rattle.slot_lists.specs.Lists.{isListed}
-use Rattle.schedule_state.specs.Calls.{outside, buildNumber, builtState, builtLists, updateNumber, updatedState, updatedLists, slotListLength}
+use Rattle.schedule_state.specs.Calls.{buildNumber, builtState, builtLists, updateNumber, updatedState, updatedLists, slotListLength}
 use Rattle.schedule_state.specs.declared.AssignmentScheduleState.{AssignmentScheduleState}
 
 -- the whole input of an update

@@ -16,7 +16,9 @@ use Rattle.counting.specs.Tests.{someBelow, bool-cases, eq-cases, lt-cases, any
 use Rattle.constraint.specs.Kind.{kindNumber}
 use Rattle.constraint.specs.Cases.{targetOperand}
 use Rattle.constraint.specs.declared.Constraint.{Constraint}
-use Rattle.input_data.specs.Day.{constraintAt}
+use Rattle.input_data.specs.Bytes.{numbersIn, dayOf}
+use Rattle.input_data.specs.BytesLaws.{numbers-of, assignment-list-of}
+use Rattle.input_data.specs.Day.{constraintOfNumbers, constraintAt}
 use Rattle.input_data.specs.declared.ConstraintList.{ConstraintList}
 use Rattle.scheduling.specs.Schedule.{entryAt}
 
@@ -164,6 +166,10 @@ module _ (sch : List ℕ) (chooser x : ℕ) where
 
 pub blockable : {l : ConstraintList} → Blocking l → (j : ℕ) → j < l .count → (b : List Bool) → length b ≡ 2048 → Blockable (kindNumber (constraintAt l j .kind)) (constraintAt l j .left) (targetOperand (constraintAt l j .right)) b
 blockable h j c b n = record { long = n; is-in = λ e. h .each j c (inl e); is-not-in = λ e. h .each j c (inr e) }
+
+-- an assignment constraint of a day, where it stands in the day's bytes
+pub constraint-in : (b : List ℕ) (j : ℕ) → j < 32 → constraintOfNumbers (numbersIn b 1276 j) ≡ constraintAt (dayOf b .assignment) j
+constraint-in b j h = ap constraintOfNumbers (sym (numbers-of b (dayOf b .assignment .count) 1276 j h)) ∙ ap (λ l. constraintAt l j) (assignment-list-of b)
 
 -- the constraints below j
 abbrev pub blockedTo : ConstraintList → List ℕ → ℕ → ℕ → ℕ → Bool

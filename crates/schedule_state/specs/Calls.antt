@@ -1,31 +1,32 @@
 -- What the calls build, update and slot list give and leave. Definitions only.
 use Prim.Native.Nat.{ℕ, _+_, _*_}
 use mathlib.Core.Path.{_≡_}
-use mathlib.Core.Bool.{Bool, false, cond, _||_}
-use mathlib.Core.List.{List, []}
+use mathlib.Core.Bool.{Bool, false, cond, not, _&&_, _||_}
+use mathlib.Core.List.{List}
 use lib.Dec.{eqb, ltb, leb}
 use lib.ListN.{length, take, drop}
 use denote.Ref.{RefT, now}
+use Rattle.input_data.specs.Bytes.{dayOf, lentNumber}
 use Rattle.input_data.specs.Checks.{firstOf, dayNumber}
 use Rattle.input_data.specs.Lengths.{listsLength}
 use Rattle.input_data.specs.declared.Limits.{Limits}
 use Rattle.input_data.specs.declared.InputData.{InputData}
 use Rattle.input_data.specs.declared.checks.Beside.{Beside}
-use Rattle.scheduling.specs.Schedule.{entryAt, badSlots}
+use Rattle.scheduling.specs.Handed.{scheduleOf, notSchedule, outside, keptOf}
+use Rattle.scheduling.specs.Schedule.{entryAt}
 use Rattle.scheduling.specs.declared.Scheduling.{Scheduling}
+use Rattle.counting.specs.Fold.{tableTo}
 use Rattle.slot_lists.specs.Sums.{one, weighed}
 use Rattle.slot_lists.specs.Walk.{built, carried}
-use Rattle.schedule_state.specs.State.{keptOf, stateOf, zeroState, inconsistent}
+use Rattle.schedule_state.specs.Bytes.{notState, stateIn}
+use Rattle.schedule_state.specs.State.{stateOf, zeroState, blockedCell, inconsistent}
 use Rattle.schedule_state.specs.declared.AssignmentScheduleState.{AssignmentScheduleState}
 use Rattle.schedule_state.specs.declared.StateAnswer.{StateAnswer}
+use Rattle.schedule_state.specs.declared.listing.SlotListAnswer.{SlotListAnswer}
 
 -- what these calls test beside the day: the length of the slot lists, and a slot that they are asked about
 abbrev pub besideLists : Limits → ℕ → Bool → Beside
 besideLists l size asked = record { lengths = ltb size (listsLength l); preferences = false; levels = false; costs = false; asked = asked }
-
--- 11 of a schedule that a call is handed
-abbrev pub outside : InputData → Scheduling → Bool
-outside d sch = badSlots (d .choices) (d .slots) (sch .entries)
 
 -- ---- a fresh build
 
@@ -38,13 +39,19 @@ builtState d sch = stateOf d (keptOf d sch)
 abbrev pub builtLists : Limits → InputData → Scheduling → List ℕ → List ℕ
 builtLists l d sch bytes = built (l .choices) (entryAt (keptOf d sch)) (d .choices) bytes
 
+-- ---- calls that are handed a state and its slot lists
+
+-- `also`: another schedule that the call is handed names a slot that the day has not
+unfoldable pub stateNumber : Limits → InputData → AssignmentScheduleState → Beside → Bool → List ℕ → ℕ
+stateNumber l d st b also bytes =
+    dayNumber l d b
+    (firstOf (also || outside d (st .schedule)) 11
+    (firstOf (inconsistent l d st bytes) 12 0))
+
 -- ---- an update
 
-unfoldable pub updateNumber : Limits → InputData → AssignmentScheduleState → Scheduling → List ℕ → ℕ
-updateNumber l d st sch bytes =
-    dayNumber l d (besideLists l (length bytes) false)
-    (firstOf (outside d sch || outside d (st .schedule)) 11
-    (firstOf (inconsistent l d st bytes) 12 0))
+abbrev pub updateNumber : Limits → InputData → AssignmentScheduleState → Scheduling → List ℕ → ℕ
+updateNumber l d st sch bytes = stateNumber l d st (besideLists l (length bytes) false) (outside d sch) bytes
 
 -- the state is that of the new schedule, the lists are carried
 abbrev pub updatedState : InputData → Scheduling → AssignmentScheduleState
@@ -53,18 +60,10 @@ updatedState d sch = stateOf d (keptOf d sch)
 abbrev pub updatedLists : Limits → InputData → AssignmentScheduleState → Scheduling → List ℕ → List ℕ
 updatedLists l d st sch bytes = carried (l .choices) (entryAt (keptOf d (st .schedule))) (entryAt (keptOf d sch)) (d .choices) bytes (d .choices)
 
--- ---- calls that are handed a state and its slot lists
-
-unfoldable pub stateNumber : Limits → InputData → AssignmentScheduleState → Beside → List ℕ → ℕ
-stateNumber l d st b bytes =
-    dayNumber l d b
-    (firstOf (outside d (st .schedule)) 11
-    (firstOf (inconsistent l d st bytes) 12 0))
-
 -- ---- a slot's list
 
 abbrev pub slotListNumber : Limits → InputData → AssignmentScheduleState → ℕ → List ℕ → ℕ
-slotListNumber l d st slot bytes = stateNumber l d st (besideLists l (length bytes) (leb (d .slots) slot)) bytes
+slotListNumber l d st slot bytes = stateNumber l d st (besideLists l (length bytes) (leb (d .slots) slot)) false bytes
 
 -- how many choices the state's schedule puts into the slot
 abbrev pub slotListLength : InputData → AssignmentScheduleState → ℕ → ℕ
@@ -73,18 +72,6 @@ slotListLength d st slot = weighed one (entryAt (keptOf d (st .schedule))) (d .c
 -- the used front of the slot's part
 abbrev pub slotListIn : Limits → InputData → AssignmentScheduleState → ℕ → List ℕ → List ℕ
 slotListIn l d st slot bytes = take (slotListLength d st slot) (drop (l .choices * slot) bytes)
-
--- r is the part of a lent slice that starts at `at` and holds `bytes`
-pub record PartOf (x : RefT (List ℕ)) (at : ℕ) (bytes : List ℕ) (r : RefT (List ℕ)) : Type 0 where
-  pub block : r .ptr .0 ≡ x .ptr .0
-  pub start : r .ptr .1 ≡ x .ptr .1 + at
-  pub holds : now r ≡ bytes
-
--- the used front of the slot's part; refused, the empty front of the buffer
-abbrev pub HandsBack : Limits → InputData → AssignmentScheduleState → ℕ → RefT (List ℕ) → RefT (List ℕ) → Type 0
-HandsBack l d st slot x r =
-    PartOf x (cond (eqb (slotListNumber l d st slot (now x)) 0) (l .choices * slot) 0)
-    (cond (eqb (slotListNumber l d st slot (now x)) 0) (slotListIn l d st slot (now x)) []) r
 
 -- ---- answers
 
@@ -102,3 +89,57 @@ answerOf n st = answer n (cond (eqb n 0) st zeroState)
 pub record Leaves (n : ℕ) (st : AssignmentScheduleState) (made before after : List ℕ) (r : StateAnswer) : Type 0 where
   pub gives : r ≡ answerOf n st
   pub leaves : after ≡ cond (eqb n 0) made before
+
+-- ---- the calls on bytes
+
+-- 11 of a schedule that is lent, where it has its length
+abbrev pub namesOutside : InputData → List ℕ → Bool
+namesOutside d sch = not (notSchedule sch) && outside d (scheduleOf sch)
+
+-- a state whose covered counts are given, and its answer
+abbrev pub madeOf : InputData → List ℕ → List ℕ → StateAnswer
+madeOf d sch covered = answer 0 (record { schedule = record { entries = sch }; covered = covered; blocks = tableTo 2048 (blockedCell d sch) })
+
+-- what the calls on bytes give and leave, each as one promise
+abbrev pub buildLent : Limits → List ℕ → List ℕ → ℕ → ℕ
+buildLent l day sch size = lentNumber l day (notSchedule sch) (buildNumber l (dayOf day) (scheduleOf sch) size)
+
+abbrev pub Built : Limits → List ℕ → List ℕ → List ℕ → List ℕ → StateAnswer → Type 0
+Built l day sch before after r =
+    Leaves (buildLent l day sch (length before))
+    (builtState (dayOf day) (scheduleOf sch)) (builtLists l (dayOf day) (scheduleOf sch) before) before after r
+
+abbrev pub updateLent : Limits → List ℕ → List ℕ → List ℕ → List ℕ → ℕ
+updateLent l day st sch bytes = lentNumber l day (notState st || notSchedule sch) (updateNumber l (dayOf day) (stateIn st) (scheduleOf sch) bytes)
+
+abbrev pub Updated : Limits → List ℕ → List ℕ → List ℕ → List ℕ → List ℕ → StateAnswer → Type 0
+Updated l day st sch before after r =
+    Leaves (updateLent l day st sch before)
+    (updatedState (dayOf day) (scheduleOf sch)) (updatedLists l (dayOf day) (stateIn st) (scheduleOf sch) before) before after r
+
+-- a slot's list: the number, and where the list starts and how long it is, or zeros
+abbrev pub slotListLent : Limits → List ℕ → List ℕ → ℕ → List ℕ → ℕ
+slotListLent l day st slot bytes = lentNumber l day (notState st) (slotListNumber l (dayOf day) (stateIn st) slot bytes)
+
+abbrev pub listRefused : ℕ → SlotListAnswer
+listRefused n = record { number = n; start = 0; length = 0 }
+
+abbrev pub listFound : Limits → InputData → AssignmentScheduleState → ℕ → SlotListAnswer
+listFound l d st slot = record { number = 0; start = l .choices * slot; length = slotListLength d st slot }
+
+unfoldable pub slotListAnswer : Limits → List ℕ → List ℕ → ℕ → List ℕ → SlotListAnswer
+slotListAnswer l day st slot bytes = cond (eqb (slotListLent l day st slot bytes) 0) (listFound l (dayOf day) (stateIn st) slot) (listRefused (slotListLent l day st slot bytes))
+
+-- r is the part of a lent slice that starts at `at` and holds `bytes`
+pub record PartOf (x : RefT (List ℕ)) (at : ℕ) (bytes : List ℕ) (r : RefT (List ℕ)) : Type 0 where
+  pub block : r .ptr .0 ≡ x .ptr .0
+  pub start : r .ptr .1 ≡ x .ptr .1 + at
+  pub holds : now r ≡ bytes
+
+-- n elements of a lent slice from `at` on
+abbrev pub PartAt : RefT (List ℕ) → ℕ → ℕ → RefT (List ℕ) → Type 0
+PartAt x at n r = PartOf x at (take n (drop at (now x))) r
+
+-- the list, which is empty where the call is refused
+abbrev pub HandsBack : Limits → List ℕ → List ℕ → ℕ → RefT (List ℕ) → RefT (List ℕ) → Type 0
+HandsBack l day st slot x r = PartAt x (slotListAnswer l day st slot (now x) .start) (slotListAnswer l day st slot (now x) .length) r

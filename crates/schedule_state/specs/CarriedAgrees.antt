@@ -1,49 +1,34 @@
 -- The proof of Agreement.antt. Assumes nothing.
-use Prim.Native.Nat.{ℕ, _+_, _*_, _<_, _≤_, _/_, _%_}
+use Prim.Native.Nat.{ℕ, _<_, _≤_, _/_, _%_}
 use mathlib.Core.Path.{_≡_, refl, sym, ap, _∙_}
-use mathlib.Core.Bool.{Bool, true, false, cond, not, _&&_, _||_, or-false}
-use mathlib.Core.List.{List, [], _∷_, _++_}
+use mathlib.Core.Bool.{Bool, true, false, not, or-false}
+use mathlib.Core.List.{List, [], _∷_}
 use native.Mathlib.Nat.{div-add-mod'}
 use native.Mathlib.Omega.{arith}
-use lib.Dec.{eqb, ltb}
 use lib.ListN.{length, getD}
-use borrow.Author.Tests.{eq-eqb, eqb-true, le-ltb, lt-ltb}
-use Rattle.counting.specs.Fold.{gate, anyTo, tableTo, fold-ext}
+use borrow.Author.Tests.{eq-eqb, eqb-true, le-ltb}
+use Rattle.counting.specs.Fold.{anyTo, tableTo}
 use Rattle.counting.specs.Holds.{isOf, Holds, holds-in, holds-has}
 use Rattle.counting.specs.Lists.{table-at}
-use Rattle.counting.specs.Tests.{bool-cases, lt-cases, eq-cases, never, each-none, one-passes, each-below}
-use Rattle.input_data.specs.Accepted.{Accepted, Past, number-accepted}
+use Rattle.counting.specs.Tests.{bool-cases, eq-cases, never, each-none, one-passes, each-below}
+use Rattle.input_data.specs.Accepted.{Past, number-accepted}
 use Rattle.input_data.specs.Checks.{firstOf}
 use Rattle.input_data.specs.Lengths.{fullDay, listsLength}
 use Rattle.input_data.specs.declared.InputData.{InputData}
-use Rattle.scheduling.specs.Schedule.{entryAt, kept, keptAt, badEntryAt}
+use Rattle.scheduling.specs.Handed.{outside, keptOf}
+use Rattle.scheduling.specs.Schedule.{entryAt, badEntryAt, kept-twice}
 use Rattle.scheduling.specs.declared.Scheduling.{Scheduling}
-use Rattle.slot_lists.specs.Held.{Held, member, misheld, not-misheld, held, held-after, held-nowhere}
-use Rattle.slot_lists.specs.Lists.{isListed}
-use Rattle.slot_lists.specs.Sums.{nowhere, one, weighed}
+use Rattle.slot_lists.specs.Held.{Held, member, not-misheld, held-after, held-nowhere, holds-any}
+use Rattle.slot_lists.specs.Sums.{nowhere}
 use Rattle.slot_lists.specs.Walk.{carried, carried-length}
-use Rattle.schedule_state.specs.Agreement.{Call, numberOf, Carried, first, updated, after, run, Fed, isIn, Agree, AsFresh, CarriedAgrees}
+use Rattle.schedule_state.specs.Agreement.{Call, numberOf, Carried, first, updated, after, run, Fed, isIn, Agree, CarriedAgrees}
 use Rattle.schedule_state.specs.Blocks.{cell, cell-in}
-use Rattle.schedule_state.specs.Calls.{besideLists, outside, buildNumber, builtState, builtLists, updateNumber, updatedState, updatedLists, slotListLength}
-use Rattle.schedule_state.specs.Good.{Ready, full-within, choices-most, slots-most, choosers-most, part-in, kept-fits}
-use Rattle.schedule_state.specs.Numbers.{build-ready, build-inside, UpdateAccepted, update-accepted}
-use Rattle.schedule_state.specs.State.{keptOf, stateOf, coveredAt, blockedAt, blockedCell, miscounted, miscountedAt, miscountedIn, misblocked, misblockedRow, misblockedAt, unlike, inconsistent}
+use Rattle.schedule_state.specs.Calls.{besideLists, buildNumber, builtState, builtLists, updateNumber, updatedState, updatedLists, stateNumber}
+use Rattle.schedule_state.specs.Good.{Ready, choices-most, slots-most, choosers-most, part-in, kept-fits}
+use Rattle.input_data.specs.Numbers.{full-within}
+use Rattle.schedule_state.specs.Numbers.{build-ready, build-inside, update-accepted}
+use Rattle.schedule_state.specs.State.{stateOf, coveredAt, blockedAt, blockedCell, miscounted, miscountedAt, miscountedIn, misblocked, misblockedRow, misblockedAt, unlike, inconsistent}
 use Rattle.schedule_state.specs.declared.AssignmentScheduleState.{AssignmentScheduleState}
-
--- a schedule that was handed back is handed back as it is
-gate-twice : (b : Bool) (x : ℕ) → gate b (gate b x) ≡ gate b x
-gate-twice true x = refl
-gate-twice false x = refl
-
-kept-kept : (n : ℕ) (sch : List ℕ) → kept n (kept n sch) ≡ kept n sch
-kept-kept n sch = fold-ext _++_ [] 32 (λ k. keptAt n (kept n sch) k ∷ []) (λ k. keptAt n sch k ∷ [])
-    (λ k h. ap (λ v. v ∷ []) (ap (λ v. gate (ltb k n) v) (table-at 32 (keptAt n sch) 0 k h) ∙ gate-twice (ltb k n) (entryAt sch k)))
-
--- a set of choices is the members that its list holds
-holds-any : {n : ℕ} {x : ℕ → ℕ} {mem : ℕ → Bool} → Holds n x mem → (k : ℕ) → anyTo n (isOf x k) ≡ mem k
-holds-any {n = n} {x = x} {mem = mem} h k = bool-cases (mem k)
-    (λ e. let r = holds-has h k e in one-passes n (isOf x k) (r .0) (r .1) (eq-eqb (x (r .0)) k (r .2)) ∙ sym e)
-    (λ e. each-none n (isOf x k) (λ j l. bool-cases (isOf x k j) (λ t. never (sym (holds-in h j l) ∙ ap mem (eqb-true (x j) k t) ∙ e)) (λ t. t)) ∙ sym e)
 
 unlike-same : (b : Bool) → unlike b b ≡ false
 unlike-same true = refl
@@ -68,7 +53,7 @@ module _ (d : InputData) (sch : Scheduling) {size : ℕ} (r : Ready fullDay d si
 
   -- the state of a schedule has that schedule
   own-schedule : keptOf d (stateOf d e .schedule) ≡ e
-  own-schedule = kept-kept (d .choices) (sch .entries)
+  own-schedule = kept-twice (d .choices) (sch .entries)
 
   own-inside : outside d (stateOf d e .schedule) ≡ false
   own-inside = each-below 32 (d .choices) (badEntryAt (d .slots) e) (λ k h. le-ltb (d .slots) (entryAt e k) (kept-fits r sch inside k h))
@@ -160,7 +145,7 @@ module _ (d : InputData) (x : Carried) (k : Kept d x) (buffer : List ℕ) (room 
   }
 
   next-number : (sch : Scheduling) → updateNumber fullDay d (x .state) sch (x .lists) ≡ firstOf (outside d sch) 11 0
-  unfolding updateNumber firstOf
+  unfolding stateNumber firstOf
   next-number sch =
       rw (k .state)
       (number-accepted fullDay d (besideLists fullDay (length (x .lists)) false) (k .ready .day) (besides (length (x .lists)) (k .ready .room)) _

@@ -1,34 +1,34 @@
 -- What accepted input gives the inner functions.
-use Prim.Native.Nat.{ℕ, zero, suc, _+_, _-_, _*_, _<_, _≤_}
-use mathlib.Core.Path.{_≡_, refl, sym, ap, _∙_}
+use Prim.Native.Nat.{ℕ, suc, _+_, _-_, _*_, _<_, _≤_}
+use mathlib.Core.Path.{_≡_, ap, _∙_}
 use mathlib.Core.Bool.{Bool, false, not, _||_}
 use mathlib.Core.Logic.{_≢_}
 use mathlib.Core.List.{List}
 use lib.Dec.{eqb}
-use lib.ListN.{length, getD, replicate, getD-replicate}
+use lib.ListN.{getD, replicate, getD-replicate}
 use native.Mathlib.Nat.{mul-le-mul-left, mul-suc}
 use native.Mathlib.Omega.{arith}
 use Rattle.input_data.specs.Accepted.{Accepted}
+use Rattle.input_data.specs.Bytes.{IsDay, dayOf}
 use Rattle.input_data.specs.Fits.{left-chooser, right-below}
-use Rattle.input_data.specs.Lengths.{Within, fullDay, listsLength}
+use Rattle.input_data.specs.Lengths.{Within, listsLength}
 use Rattle.input_data.specs.declared.Limits.{Limits}
-use Rattle.input_data.specs.declared.ConstraintList.{ConstraintList}
 use Rattle.input_data.specs.declared.InputData.{InputData}
 use Rattle.input_data.specs.declared.checks.Beside.{Beside}
-use Rattle.scheduling.specs.Schedule.{entryAt, kept, kept-at, entries-fit, badSlots}
+use Rattle.scheduling.specs.Handed.{outside, keptOf}
+use Rattle.scheduling.specs.Schedule.{entryAt, kept-at, entries-fit}
 use Rattle.scheduling.specs.declared.Scheduling.{Scheduling}
 use Rattle.counting.specs.Fold.{gate, anyTo, fold-ext}
-use Rattle.counting.specs.Tests.{none-each, each-none}
-use Rattle.counting.specs.Sums.{count-le}
-use Rattle.slot_lists.specs.Held.{LooksAll, isLacking, misheld, lacking-is}
-use Rattle.slot_lists.specs.Sums.{Weighs, Sums, one, inSlot, weightAt, weighed, sums-table}
-use Rattle.slot_lists.specs.Walk.{Carries, Carried, carried}
-use Rattle.schedule_state.specs.Blocks.{Blocking, Blocks, blockedBy, cell, cell-in, blocks-table}
-use Rattle.schedule_state.specs.Calls.{outside, answer}
-use Rattle.schedule_state.specs.State.{keptOf, stateOf, inconsistentIn, miscountedIn, miscountedAt, misblocked, misblockedRow, misblockedAt, unlike, unlikeAt, sumsOf, cellsOf}
+use Rattle.counting.specs.Tests.{none-each, each-none, each-below}
+use Rattle.slot_lists.specs.Held.{misheld}
+use Rattle.slot_lists.specs.Marks.{Looks}
+use Rattle.slot_lists.specs.Sums.{Weighs, Sums, SlotSums, one, inSlot, weightAt, sums-table}
+use Rattle.slot_lists.specs.Walk.{Carries, Carried}
+use Rattle.schedule_state.specs.Blocks.{Blocking, Blocks, blockedBy, blocksAt, cell, cell-in}
+use Rattle.schedule_state.specs.Bytes.{IsState, blockIn, block-in, stateIn}
+use Rattle.schedule_state.specs.Calls.{answer, madeOf, stateNumber}
+use Rattle.schedule_state.specs.State.{stateOf, blockedAt, coveredAt, inconsistent, miscounted, miscountedIn, miscountedAt, misblocked, misblockedIn, misblockedRow, misblockedAt, unlike, unlikeAt, sumsOf, cellsOf}
 use Rattle.schedule_state.specs.declared.AssignmentScheduleState.{AssignmentScheduleState}
-use Rattle.schedule_state.specs.declared.StateAnswer.{StateAnswer}
-use Rattle.schedule_state.specs.declared.state.Sizes.{Sizes}
 
 -- an accepted day, and a buffer that has room for its lists
 pub record Ready (l : Limits) (d : InputData) (size : ℕ) : Type 0 where
@@ -36,15 +36,26 @@ pub record Ready (l : Limits) (d : InputData) (size : ℕ) : Type 0 where
   pub day : Accepted l d
   pub room : listsLength l ≤ size
 
--- what a call tests beside the day says of the slot lists' length
-pub record Handed (l : Limits) (b : Beside) (size : ℕ) : Type 0 where
+-- what a call tests beside the day says of the lengths of the state and of the slot lists
+pub record Handed (l : Limits) (b : Beside) (st : List ℕ) (size : ℕ) : Type 0 where
   pub within : Within l
+  pub state : b .lengths ≡ false → IsState st
   pub room : b .lengths ≡ false → listsLength l ≤ size
 
--- .. with a state whose schedule names the day's slots alone
-pub record ReadyState (l : Limits) (d : InputData) (st : AssignmentScheduleState) (size : ℕ) : Type 0 where
-  pub ready : Ready l d size
-  pub inside : outside d (st .schedule) ≡ false
+-- the number of a call that is handed a state; where it is 0 also the sums of the state's schedule
+pub record Found (l : Limits) (d : InputData) (st : AssignmentScheduleState) (b : Beside) (also : Bool) (bytes lens covered : List ℕ) (n : ℕ) : Type 0 where
+  pub number : n ≡ stateNumber l d st b also bytes
+  pub sums : n ≡ 0 → SlotSums (d .mins) (keptOf d (st .schedule)) (d .choices) lens covered
+
+-- a schedule, by its entries, that names the day's slots alone
+pub record Names (d : InputData) (sch : List ℕ) : Type 0 where
+  pub fits : (k : ℕ) → k < d .choices → entryAt sch k ≤ d .slots
+
+-- a day whose blocks fit into their table, and whose constraints that block name a chooser and a choice
+pub record Small (d : InputData) : Type 0 where
+  pub choosers : d .choosers ≤ 64
+  pub choices : d .choices ≤ 32
+  pub blocking : Blocking (d .assignment)
 
 -- sums of 32 ones are counts
 pub counts-of : {f : ℕ → ℕ} {n : ℕ} {a : List ℕ} → n ≤ 32 → Sums (entryAt (replicate 32 1)) f n a → Sums one f n a
@@ -84,8 +95,8 @@ module _ {l : Limits} {d : InputData} {size : ℕ} (r : Ready l d size) where
     pub kept-fits : (k : ℕ) → k < d .choices → entryAt (keptOf d sch) k ≤ d .slots
     kept-fits k h = rw (kept-at (d .choices) (sch .entries) k h choices-most) (entries-fit (d .choices) (d .slots) (sch .entries) choices-most inside k h)
 
-    pub kept-part : (k : ℕ) → k < d .choices → entryAt (keptOf d sch) k ≢ 0 → l .choices * (entryAt (keptOf d sch) k - 1) + l .choices ≤ size
-    kept-part k h e = part-in (entryAt (keptOf d sch) k - 1) (omega (arith, kept-fits k h))
+    pub kept-names : Names d (keptOf d sch)
+    kept-names = record { fits = kept-fits }
 
     pub weighs : (w : List ℕ) → ((k : ℕ) → k < d .choices → entryAt w k ≤ 1000) → Weighs (keptOf d sch) w (d .choices)
     weighs w light = record { count = choices-most; small = λ k h. omega (arith, kept-fits k h, slots-most); light = light }
@@ -96,128 +107,70 @@ module _ {l : Limits} {d : InputData} {size : ℕ} (r : Ready l d size) where
   pub one-most : (k : ℕ) → k < d .choices → entryAt (replicate 32 1) k ≤ 1000
   one-most k h = omega (arith, getD-replicate {A = ℕ} 32 k 1 0 (omega (arith, choices-most)))
 
-  pub counts : {f : ℕ → ℕ} {a : List ℕ} → Sums (entryAt (replicate 32 1)) f (d .choices) a → Sums one f (d .choices) a
-  counts p = counts-of choices-most p
+  -- what summing asks of a schedule that names the day's slots alone
+  pub weighs-of : {sch : List ℕ} → Names d sch → Weighs sch (d .mins) (d .choices)
+  weighs-of f = record { count = choices-most; small = λ k b. omega (arith, f .fits k b, slots-most); light = min-most }
 
--- what check 12 asks: sizes that the types hold, a schedule that names the day's slots alone, light choices
-pub record Holdable (z : Sizes) (sch mins : List ℕ) (assignment : ConstraintList) (size : ℕ) : Type 0 where
-  pub choosers : z .choosers ≤ 64
-  pub choices : z .choices ≤ 32
-  pub slots : z .slots ≤ 8
-  pub room : z .choices ≤ z .stride
-  pub fits : (k : ℕ) → k < z .choices → entryAt sch k ≤ z .slots
-  pub part : (k : ℕ) → k < z .choices → entryAt sch k ≢ 0 → z .stride * (entryAt sch k - 1) + z .stride ≤ size
-  pub light : (k : ℕ) → k < z .choices → entryAt mins k ≤ 1000
-  pub blocking : Blocking assignment
+  pub part-of : {sch : List ℕ} → Names d sch → (k : ℕ) → k < d .choices → entryAt sch k ≢ 0 → l .choices * (entryAt sch k - 1) + l .choices ≤ size
+  part-of {sch = sch} f k h e = part-in (entryAt sch k - 1) (omega (arith, f .fits k h))
 
-pub holdable : {l : Limits} {d : InputData} {st : AssignmentScheduleState} {size : ℕ} → ReadyState l d st size
-    → Holdable (record { stride = l .choices; choosers = d .choosers; choices = d .choices; slots = d .slots }) (keptOf d (st .schedule)) (d .mins) (d .assignment) size
-holdable {st = st} r = record {
-  choosers = choosers-most (r .ready);
-  choices = choices-most (r .ready);
-  slots = slots-most (r .ready);
-  room = r .ready .day .choices;
-  fits = kept-fits (r .ready) (st .schedule) (r .inside);
-  part = kept-part (r .ready) (st .schedule) (r .inside);
-  light = min-most (r .ready);
-  blocking = blocking (r .ready);
-}
+  pub small-day : Small d
+  small-day = record { choosers = choosers-most; choices = choices-most; blocking = blocking }
 
-module _ {z : Sizes} {sch mins : List ℕ} {assignment : ConstraintList} {size : ℕ} (h : Holdable z sch mins assignment size) where
-  pub weighs-in : (w : List ℕ) → ((k : ℕ) → k < z .choices → entryAt w k ≤ 1000) → Weighs sch w (z .choices)
-  weighs-in w light = record { count = h .choices; small = λ k b. omega (arith, h .fits k b, h .slots); light = light }
+-- ---- check 12
 
-  pub ones-light : (k : ℕ) → k < z .choices → entryAt (replicate 32 1) k ≤ 1000
-  ones-light k b = omega (arith, getD-replicate {A = ℕ} 32 k 1 0 (omega (arith, h .choices)))
+-- what it asks: the state's own schedule, which names the day's slots alone, and its sums
+pub record Holdable (l : Limits) (day state entries lens covered : List ℕ) (size : ℕ) : Type 0 where
+  pub is-day : IsDay day
+  pub is-state : IsState state
+  pub ready : Ready l (dayOf day) size
+  pub own : entries ≡ keptOf (dayOf day) (stateIn state .schedule)
+  pub names : Names (dayOf day) entries
+  pub sums : SlotSums (dayOf day .mins) entries (dayOf day .choices) lens covered
 
-  pub looks-all : {a : List ℕ} → Sums one (entryAt sch) (z .choices) a → LooksAll (z .stride) (z .choices) sch size a
-  looks-all p = record { count = h .choices; room = h .room; small = λ k b. omega (arith, h .fits k b, h .slots); part = h .part; lens = p }
+module _ {l : Limits} {day state entries lens covered : List ℕ} {size : ℕ} (h : Holdable l day state entries lens covered size) where
+  abbrev d : InputData
+  d = dayOf day
+
+  pub looks : Looks (l .choices) (d .choices) (d .slots) entries size lens
+  looks = record {
+    count = choices-most (h .ready);
+    few = slots-most (h .ready);
+    room = h .ready .day .choices;
+    fits = h .names .fits;
+    part = part-in (h .ready);
+    lens = h .sums .lens;
+  }
 
   -- what the code holds the state against is its own schedule
-  counted : (covered : List ℕ) {c : List ℕ} → Sums (entryAt mins) (entryAt sch) (z .choices) c → miscountedIn (sumsOf c) (z .slots) covered ≡ miscountedIn (weighed (entryAt mins) (entryAt sch) (z .choices)) (z .slots) covered
+  counted : (c : List ℕ) → miscountedIn (sumsOf covered) (d .slots) c ≡ miscounted d entries c
   unfolding miscountedIn
-  counted covered {c = c} p = fold-ext _||_ false (z .slots) (miscountedAt (sumsOf c) covered) (miscountedAt (weighed (entryAt mins) (entryAt sch) (z .choices)) covered)
-      (λ s b. ap (λ (n : ℕ). not (eqb (getD covered s 0) n)) (p .at s (omega (arith, h .slots))))
+  counted c = fold-ext _||_ false (d .slots) (miscountedAt (sumsOf covered) c) (miscountedAt (coveredAt d entries) c)
+      (λ s b. ap (λ (n : ℕ). not (eqb (getD c s 0) n)) (h .sums .covered .at s (omega (arith, slots-most (h .ready)))))
 
-  blocked : (blocks : List Bool) {b : List Bool} → Blocks (blockedBy assignment sch) b → misblocked (cellsOf b) (z .choosers) (z .choices) blocks ≡ misblocked (blockedBy assignment sch) (z .choosers) (z .choices) blocks
-  unfolding misblocked
-  blocked blocks {b = b} p = fold-ext _||_ false (z .choosers) (misblockedRow (cellsOf b) (z .choices) blocks) (misblockedRow (blockedBy assignment sch) (z .choices) blocks)
-      (λ c x. fold-ext _||_ false (z .choices) (misblockedAt (cellsOf b) blocks c) (misblockedAt (blockedBy assignment sch) blocks c)
-      (λ k y. ap (λ (t : Bool). unlike (getD blocks (cell c k) false) t) (p .at c k (omega (arith, h .choosers)) (omega (arith, h .choices)))))
+  pub inconsistent-is : (bytes : List ℕ) {x y w : Bool} → x ≡ misheld (l .choices) (entryAt entries) (d .choices) (d .slots) bytes
+      → y ≡ miscountedIn (sumsOf covered) (d .slots) (stateIn state .covered) → w ≡ misblockedIn d entries (stateIn state .blocks)
+      → (x || y || w) ≡ inconsistent l d (stateIn state) bytes
+  inconsistent-is bytes p q r =
+      rw (p, q ∙ counted (stateIn state .covered), r, h .own)
 
-  pub inconsistent-is : (covered : List ℕ) (blocks : List Bool) (bytes : List ℕ) {x y w : Bool} {c : List ℕ} {b : List Bool} → x ≡ isLacking (z .stride) (entryAt sch) (z .choices) bytes
-      → Sums (entryAt mins) (entryAt sch) (z .choices) c → y ≡ miscountedIn (sumsOf c) (z .slots) covered
-      → Blocks (blockedBy assignment sch) b → w ≡ misblocked (cellsOf b) (z .choosers) (z .choices) blocks
-      → (x || y || w) ≡ inconsistentIn (z .stride) (z .choosers) (z .choices) (z .slots) mins assignment sch covered blocks bytes
-  inconsistent-is covered blocks bytes p cs q bs r =
-      rw (p ∙ lacking-is (z .stride) (entryAt sch) (z .choices) (z .slots) bytes (h .fits), q ∙ counted covered cs, r ∙ blocked blocks bs)
+-- the blocks that the code makes anew are those of the schedule
+pub blocked-in : (d : InputData) (sch : List ℕ) (blocks : List Bool) {b : List Bool} → Small d → Blocks (blockedAt d sch) b → misblocked (cellsOf b) (d .choosers) (d .choices) blocks ≡ misblockedIn d sch blocks
+unfolding misblocked
+blocked-in d sch blocks {b = b} h p = fold-ext _||_ false (d .choosers) (misblockedRow (cellsOf b) (d .choices) blocks) (misblockedRow (blockedAt d sch) (d .choices) blocks)
+    (λ c x. fold-ext _||_ false (d .choices) (misblockedAt (cellsOf b) blocks c) (misblockedAt (blockedAt d sch) blocks c)
+    (λ k y. ap (λ (t : Bool). unlike (getD blocks (cell c k) false) t) (p .at c k (omega (arith, h .choosers)) (omega (arith, h .choices)))))
 
--- ---- carrying a state
+-- without assignment constraints nothing is blocked
+nothing-blocked : (d : InputData) (sch : List ℕ) (c k : ℕ) → d .assignment .count ≡ 0 → blockedAt d sch c k ≡ false
+unfolding blockedBy
+nothing-blocked d sch c k e = each-below 32 (d .assignment .count) (blocksAt (d .assignment) sch c k) (λ j h. absurd (omega arith))
 
--- two schedules, by their entries, that name the day's slots alone
-pub record Carriable (l : Limits) (d : InputData) (old new : List ℕ) (size : ℕ) : Type 0 where
-  pub ready : Ready l d size
-  pub from : (k : ℕ) → k < d .choices → entryAt old k ≤ d .slots
-  pub to : (k : ℕ) → k < d .choices → entryAt new k ≤ d .slots
-
-pub record CarriedState (l : Limits) (d : InputData) (old new bytes bytes′ : List ℕ) (r : StateAnswer) : Type 0 where
-  pub gives : r ≡ answer 0 (stateOf d new)
-  pub leaves : bytes′ ≡ carried (l .choices) (entryAt old) (entryAt new) (d .choices) bytes (d .choices)
-
-module _ {l : Limits} {d : InputData} {old new : List ℕ} {size : ℕ} (h : Carriable l d old new size) where
-  part-of : (sch : List ℕ) → ((k : ℕ) → k < d .choices → entryAt sch k ≤ d .slots) → (k : ℕ) → k < d .choices → entryAt sch k ≢ 0 → l .choices * (entryAt sch k - 1) + l .choices ≤ size
-  part-of sch f k b e = part-in (h .ready) (entryAt sch k - 1) (omega (arith, f k b))
-
-  pub weighs-of : (sch : List ℕ) → ((k : ℕ) → k < d .choices → entryAt sch k ≤ d .slots) → (w : List ℕ) → ((k : ℕ) → k < d .choices → entryAt w k ≤ 1000) → Weighs sch w (d .choices)
-  weighs-of sch f w light = record { count = choices-most (h .ready); small = λ k b. omega (arith, f k b, slots-most (h .ready)); light = light }
-
-  pub carries : {a c : List ℕ} → Sums (entryAt (replicate 32 1)) (entryAt old) (d .choices) a → Sums (entryAt (d .mins)) (entryAt old) (d .choices) c → Carries (l .choices) (d .choices) old new (d .mins) size a c
-  carries p q = record {
-    count = choices-most (h .ready);
-    room = h .ready .day .choices;
-    from = weighs-of old (h .from) (d .mins) (min-most (h .ready));
-    to = weighs-of new (h .to) (d .mins) (min-most (h .ready));
-    from-part = part-of old (h .from);
-    to-part = part-of new (h .to);
-    lens = counts (h .ready) p;
-    covered = q;
-  }
-
-  -- what the code puts together is the state of the new schedule
-  pub carried-state : {bytes bytes′ c : List ℕ} {b : List Bool} → Carried (l .choices) (d .choices) old new (d .mins) bytes bytes′ c → Blocks (blockedBy (d .assignment) new) b
-      → CarriedState l d old new bytes bytes′ (answer 0 (record { schedule = record { entries = new }; covered = c; blocks = b }))
-  carried-state {c = c} {b = b} p q = record {
-    gives = rw (sums-table (entryAt (d .mins)) (entryAt new) (d .choices) c (p .covered), blocks-table (blockedBy (d .assignment) new) b q);
-    leaves = p .lists;
-  }
-
--- the full day's limits are within what the types hold
-pub full-within : Within fullDay
-full-within = record { choosers = omega arith; choices = omega arith; slots = omega arith }
-
--- ---- a slot's list
-
-pub record Listing (stride n : ℕ) (entries : List ℕ) (size slot : ℕ) : Type 0 where
-  pub weighs : Weighs entries (replicate 32 1) n
-  pub room : n ≤ stride
-  pub small : slot < 8
-  pub part : stride * slot + stride ≤ size
-
--- the list's length, as the code sums it
-module _ {stride n : ℕ} {entries : List ℕ} {size slot : ℕ} (h : Listing stride n entries size slot) {a : List ℕ} (p : Sums (entryAt (replicate 32 1)) (entryAt entries) n a) where
-  pub length-is : getD a slot 0 ≡ weighed one (entryAt entries) n slot
-  length-is = counts-of (h .weighs .count) p .at slot (h .small)
-
-  pub length-most : getD a slot 0 ≤ stride
-  length-most = omega (arith, h .room, length-is, count-le n (inSlot (entryAt entries) slot))
-
-pub listing-of : {l : Limits} {d : InputData} {size : ℕ} (r : Ready l d size) (sch : Scheduling) → outside d sch ≡ false → (slot : ℕ) → slot < d .slots → Listing (l .choices) (d .choices) (keptOf d sch) size slot
-listing-of r sch inside slot h = record {
-  weighs = weighs r sch inside (replicate 32 1) (one-most r);
-  room = r .day .choices;
-  small = omega (arith, slots-most r);
-  part = part-in r slot h;
-}
+pub none-misblocked : (d : InputData) (sch state : List ℕ) → Small d → d .assignment .count ≡ 0 → anyTo 2048 (blockIn state) ≡ false → misblockedIn d sch (stateIn state .blocks) ≡ false
+unfolding misblocked
+none-misblocked d sch state h e p = each-none (d .choosers) (misblockedRow (blockedAt d sch) (d .choices) (stateIn state .blocks)) (λ c x. each-none (d .choices) (misblockedAt (blockedAt d sch) (stateIn state .blocks) c)
+    (λ k y. let i = cell-in c k (omega (arith, h .choosers)) (omega (arith, h .choices)) in
+    simp (block-in state (cell c k) i ∙ none-each 2048 (blockIn state) p (cell c k) i, nothing-blocked d sch c k e)))
 
 -- tables that do not differ anywhere do not differ within the day
 pub nowhere-unlike : (a b : List Bool) (choosers choices : ℕ) → choosers ≤ 64 → choices ≤ 32 → anyTo 2048 (unlikeAt a b) ≡ false → misblocked (cellsOf b) choosers choices a ≡ false
@@ -225,3 +178,27 @@ unfolding misblocked
 nowhere-unlike a b choosers choices hc hk e =
     each-none choosers (misblockedRow (cellsOf b) choices a) (λ c x. each-none choices (misblockedAt (cellsOf b) a c)
     (λ k y. none-each 2048 (unlikeAt a b) e (cell c k) (cell-in c k (omega arith) (omega arith))))
+
+-- ---- carrying a state
+
+-- two schedules, by their entries, that name the day's slots alone
+pub record Carriable (l : Limits) (d : InputData) (last next : List ℕ) (size : ℕ) : Type 0 where
+  pub ready : Ready l d size
+  pub from : Names d last
+  pub to : Names d next
+
+pub carries : {l : Limits} {d : InputData} {last next : List ℕ} {size : ℕ} → Carriable l d last next size → {a c : List ℕ} → SlotSums (d .mins) last (d .choices) a c → Carries (l .choices) (d .choices) last next (d .mins) size a c
+carries h p = record {
+  count = choices-most (h .ready);
+  room = h .ready .day .choices;
+  from = weighs-of (h .ready) (h .from);
+  to = weighs-of (h .ready) (h .to);
+  from-part = part-of (h .ready) (h .from);
+  to-part = part-of (h .ready) (h .to);
+  lens = p .lens;
+  covered = p .covered;
+}
+
+-- what the code puts together is the state of the next schedule
+pub made-state : {stride : ℕ} (d : InputData) {last next : List ℕ} {bytes bytes′ c : List ℕ} → Carried stride (d .choices) last next (d .mins) bytes bytes′ c → madeOf d next c ≡ answer 0 (stateOf d next)
+made-state d {next = next} {c = c} p = rw (sums-table (entryAt (d .mins)) (entryAt next) (d .choices) c (p .covered))

@@ -1,4 +1,5 @@
 -- assignment_solver.rs: the schedule state, its blocks, check 12, build, update, slot list, and what holds of every carried state.
+pub mod Bytes
 pub mod Blocks
 pub mod State
 pub mod Calls

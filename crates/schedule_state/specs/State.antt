@@ -1,16 +1,15 @@
 -- The state of a schedule, and check 12. Definitions only.
 use Prim.Native.Nat.{ℕ, _/_, _%_}
-use mathlib.Core.Bool.{Bool, false, cond, not, _&&_, _||_}
+use mathlib.Core.Bool.{Bool, false, not, _&&_, _||_}
 use mathlib.Core.List.{List}
 use lib.Dec.{eqb}
 use lib.ListN.{getD, replicate}
 use Rattle.counting.specs.Fold.{anyTo, tableTo}
 use Rattle.input_data.specs.Day.{minAt}
 use Rattle.input_data.specs.declared.Limits.{Limits}
-use Rattle.input_data.specs.declared.ConstraintList.{ConstraintList}
 use Rattle.input_data.specs.declared.InputData.{InputData}
-use Rattle.scheduling.specs.Schedule.{entryAt, kept}
-use Rattle.scheduling.specs.declared.Scheduling.{Scheduling}
+use Rattle.scheduling.specs.Handed.{keptOf}
+use Rattle.scheduling.specs.Schedule.{entryAt}
 use Rattle.slot_lists.specs.Held.{misheld}
 use Rattle.slot_lists.specs.Sums.{weighed}
 use Rattle.schedule_state.specs.Blocks.{blockedBy, cell}
@@ -25,10 +24,6 @@ blockedAt d sch c k = blockedBy (d .assignment) sch c k
 
 abbrev pub blockedCell : InputData → List ℕ → ℕ → Bool
 blockedCell d sch p = blockedAt d sch (p / 32) (p % 32)
-
--- the schedule as it is handed back
-abbrev pub keptOf : InputData → Scheduling → List ℕ
-keptOf d sch = kept (d .choices) (sch .entries)
 
 -- the state of a schedule, which has none past the day's choices
 abbrev pub stateOf : InputData → List ℕ → AssignmentScheduleState
@@ -76,12 +71,12 @@ sumsOf a s = getD a s 0
 abbrev pub cellsOf : List Bool → ℕ → ℕ → Bool
 cellsOf b c k = getD b (cell c k) false
 
--- 12. The state is not consistent with its own schedule: what it says of lists, covered counts and blocks is not what follows from these.
-abbrev pub inconsistentIn : ℕ → ℕ → ℕ → ℕ → List ℕ → ConstraintList → List ℕ → List ℕ → List Bool → List ℕ → Bool
-inconsistentIn stride choosers choices slots mins assignment sch covered blocks bytes =
-    misheld stride (entryAt sch) choices slots bytes
-    || miscountedIn (weighed (entryAt mins) (entryAt sch) choices) slots covered
-    || misblocked (blockedBy assignment sch) choosers choices blocks
+abbrev pub misblockedIn : InputData → List ℕ → List Bool → Bool
+misblockedIn d sch blocks = misblocked (blockedAt d sch) (d .choosers) (d .choices) blocks
 
+-- 12. The state is not consistent with its own schedule: what it says of lists, covered counts and blocks is not what follows from these.
 abbrev pub inconsistent : Limits → InputData → AssignmentScheduleState → List ℕ → Bool
-inconsistent l d st bytes = inconsistentIn (l .choices) (d .choosers) (d .choices) (d .slots) (d .mins) (d .assignment) (keptOf d (st .schedule)) (st .covered) (st .blocks) bytes
+inconsistent l d st bytes =
+    misheld (l .choices) (entryAt (keptOf d (st .schedule))) (d .choices) (d .slots) bytes
+    || miscounted d (keptOf d (st .schedule)) (st .covered)
+    || misblockedIn d (keptOf d (st .schedule)) (st .blocks)

@@ -1,17 +1,18 @@
 // The blocks of a schedule, constraint by constraint.
 use constraint::Constraint;
-use input_data::ConstraintList;
 ghost use mathlib.Core.Path.{_≡_};
 ghost use Prim.Native.Nat.{_<_};
 ghost use lib.ListN.{length};
+ghost use Rattle.counting.specs.Lent.{old, new};
 ghost use Rattle.constraint.specs.Kind.{kindNumber};
 ghost use Rattle.constraint.specs.Cases.{targetOperand};
+ghost use Rattle.input_data.specs.Bytes.{IsDay, dayOf};
 ghost use Rattle.schedule_state.specs.Blocks.{besideFor, blocksFor, blocksBy, blockedBy, Blocked, Blocks, Blockable, Unfilled};
 
 // The choices beside choice x in its slot are blocked for a chooser. x has a slot.
 fn block_beside(blocks: &mut [bool; 2048], entries: &[u8; 32], chooser: usize, x: usize)
     requires { ⌜ (chooser < 64) × (x < 32) × (length (now blocks) ≡ 2048) ⌝ }
-    ensures { λ _. ⌜ Blocked (besideFor (now (entries .entry)) chooser x) (now (blocks .entry)) (now (blocks .exit)) ⌝ }
+    ensures { λ _. ⌜ Blocked (besideFor (old entries) chooser x) (old blocks) (new blocks) ⌝ }
 {
     let slot = entries[x];
     let base = 32 * chooser;
@@ -26,7 +27,7 @@ fn block_beside(blocks: &mut [bool; 2048], entries: &[u8; 32], chooser: usize, x
 // What one constraint blocks. Only two kinds block anything.
 fn block_by(blocks: &mut [bool; 2048], entries: &[u8; 32], kind: u32, chooser: usize, x: usize)
     requires { ⌜ Blockable kind chooser x (now blocks) ⌝ }
-    ensures { λ _. ⌜ Blocked (blocksFor kind (now (entries .entry)) chooser x) (now (blocks .entry)) (now (blocks .exit)) ⌝ }
+    ensures { λ _. ⌜ Blocked (blocksFor kind (old entries) chooser x) (old blocks) (new blocks) ⌝ }
 {
     if kind == 65537 {
         if entries[x] == 0 {
@@ -44,7 +45,7 @@ fn block_by(blocks: &mut [bool; 2048], entries: &[u8; 32], kind: u32, chooser: u
 
 fn block_constraint(blocks: &mut [bool; 2048], entries: &[u8; 32], c: Constraint)
     requires { ⌜ Blockable (kindNumber (c .kind)) (c .left) (targetOperand (c .right)) (now blocks) ⌝ }
-    ensures { λ _. ⌜ Blocked (blocksBy c (now (entries .entry))) (now (blocks .entry)) (now (blocks .exit)) ⌝ }
+    ensures { λ _. ⌜ Blocked (blocksBy c (old entries)) (old blocks) (new blocks) ⌝ }
 {
     let kind = c.kind;
     let right = c.right;
@@ -52,14 +53,14 @@ fn block_constraint(blocks: &mut [bool; 2048], entries: &[u8; 32], c: Constraint
 }
 
 // The blocks of a schedule, in a table in which nothing is blocked yet: what each assignment constraint blocks.
-pub fn fill_blocks(blocks: &mut [bool; 2048], list: ConstraintList, entries: &[u8; 32])
-    requires { ⌜ Unfilled list (now blocks) ⌝ }
-    ensures { λ _. ⌜ Blocks (blockedBy list (now (entries .entry))) (now (blocks .exit)) ⌝ }
+pub fn fill_blocks(blocks: &mut [bool; 2048], day: &[u8], entries: &[u8; 32])
+    requires { ⌜ IsDay (now day) × Unfilled (dayOf (now day) .assignment) (now blocks) ⌝ }
+    ensures { λ _. ⌜ Blocks (blockedBy (dayOf (old day) .assignment) (old entries)) (new blocks) ⌝ }
 {
-    let count = list.count;
+    let count = input_data::assignment_count(day);
     let mut j = 0;
     while j < count {
-        let c = list.entries[j];
+        let c = input_data::numbers_at(day, 1276, j);
         block_constraint(blocks, entries, c.constraint());
         j += 1;
     }

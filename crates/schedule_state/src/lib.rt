@@ -1,21 +1,24 @@
 // assignment_solver.rs: the state that is carried from schedule to schedule.
 mod blocks;
+mod bytes;
 mod checks;
 mod listing;
+mod number;
 mod state;
 
+pub use bytes::state_of;
+pub use listing::SlotListAnswer;
 pub use listing::list_front;
 pub use listing::slot_list;
+pub use listing::slot_list_answer;
 pub use listing::slot_list_number;
-pub use listing::state_number;
+pub use number::ones;
+pub use number::state_number;
 use scheduling::Scheduling;
-pub use state::Sizes;
 pub use state::build;
-pub use state::full_day;
-pub use state::ones;
 pub use state::update;
 
-// Lists of choices stand in a lent buffer; their lengths follow from the schedule.
+// Lists of choices stand in a lent buffer; their lengths follow from the schedule. A state is lent as bytes, in this layout.
 #[repr(C)]
 pub struct AssignmentScheduleState {
     pub schedule: Scheduling,

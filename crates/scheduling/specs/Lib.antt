@@ -1,2 +1,3 @@
 -- scheduling.rs: schedules and check 11.
 pub mod Schedule
+pub mod Handed

@@ -34,8 +34,8 @@ module _ {ℓ} {A : Type ℓ} where
   of-slot (suc s) none slot q = ap slot (omega arith)
 
 -- the slot that an entry names, if it names one
-abbrev pub slotOf : List ℕ → ℕ → SlotOf
-slotOf sch k = ofEntry (entryAt sch k) None Slot
+abbrev pub slotIn : ℕ → SlotOf
+slotIn e = ofEntry e None Slot
 
 -- 11. a slot at or above the day's count, in an entry of the day's choices
 abbrev pub badEntry : ℕ → ℕ → Bool

@@ -1,7 +1,10 @@
 // scheduling.rs: a schedule, its slots, and check 11.
+use counting::at_most;
+ghost use mathlib.Core.Bool.{true, _&&_};
 ghost use mathlib.Core.Path.{_≡_};
-ghost use Rattle.counting.specs.Fold.{gate, tableTo};
-ghost use Rattle.scheduling.specs.Schedule.{slotOf, keptAt, badEntry, badSlots};
+ghost use lib.ListN.{length};
+ghost use Rattle.counting.specs.Lent.{old};
+ghost use Rattle.scheduling.specs.Schedule.{slotIn, badEntry, badSlots, kept};
 
 // A schedule gives each choice one slot or none: an entry is 0 for none, and s + 1 for slot s.
 // Entries past the day's choices are ignored.
@@ -10,26 +13,20 @@ pub struct Scheduling {
     pub entries: [u8; 32],
 }
 
-// What slot_of finds: the Rust's Option.
+// What an entry says: the Rust's Option.
 pub enum SlotOf {
     None,
     Slot(usize),
 }
 
-impl Scheduling {
-    // The slot of a choice, or none.
-    pub fn slot_of(self, choice: usize) -> SlotOf
-        ensures { λ r. ⌜ r ≡ slotOf (self .entries) choice ⌝ }
-    {
-        if 32 <= choice {
-            return SlotOf::None;
-        }
-        let entry = self.entries[choice] as usize;
-        if entry == 0 {
-            return SlotOf::None;
-        }
-        SlotOf::Slot(entry - 1)
+// The slot that an entry names, or none.
+pub fn slot_in(entry: u8) -> SlotOf
+    ensures { λ r. ⌜ r ≡ slotIn entry ⌝ }
+{
+    if entry == 0 {
+        return SlotOf::None;
     }
+    SlotOf::Slot(entry as usize - 1)
 }
 
 fn bad_entry(slots: usize, entry: u8) -> bool
@@ -39,35 +36,41 @@ fn bad_entry(slots: usize, entry: u8) -> bool
 }
 
 // 11. A schedule names a slot that the day has not.
-pub fn bad_slots(choices: usize, slots: usize, entries: &[u8; 32]) -> bool
-    ensures { λ r. ⌜ r ≡ badSlots choices slots (now (entries .entry)) ⌝ }
+pub fn bad_slots(choices: usize, slots: usize, entries: &[u8]) -> bool
+    requires { ⌜ length (now entries) ≡ 32 ⌝ }
+    ensures { λ r. ⌜ r ≡ badSlots choices slots (old entries) ⌝ }
 {
+    let n = at_most(32, choices);
     let mut bad = false;
     let mut i = 0;
-    while i < 32 {
-        bad = bad | ((i < choices) & bad_entry(slots, entries[i]));
+    while i < n {
+        bad = bad | bad_entry(slots, entries[i]);
         i += 1;
     }
     bad
 }
 
-fn kept_at(inside: bool, entry: u8) -> u8
-    ensures { λ r. ⌜ r ≡ gate inside entry ⌝ }
+// The same of a schedule that is there.
+pub fn bad_slots_if(there: bool, choices: usize, slots: usize, entries: &[u8]) -> bool
+    requires { ⌜ (there ≡ true → length (now entries) ≡ 32) ⌝ }
+    ensures { λ r. ⌜ r ≡ (there && badSlots choices slots (old entries)) ⌝ }
 {
-    if inside {
-        return entry;
+    if there {
+        return bad_slots(choices, slots, entries);
     }
-    0
+    false
 }
 
 // The schedule as it is handed back: none past the day's choices.
-pub fn kept(choices: usize, entries: &[u8; 32]) -> [u8; 32]
-    ensures { λ r. ⌜ r ≡ tableTo 32 (keptAt choices (now (entries .entry))) ⌝ }
+pub fn kept(choices: usize, entries: &[u8]) -> [u8; 32]
+    requires { ⌜ length (now entries) ≡ 32 ⌝ }
+    ensures { λ r. ⌜ r ≡ kept choices (old entries) ⌝ }
 {
+    let n = at_most(32, choices);
     let mut out = [0u8; 32];
     let mut i = 0;
-    while i < 32 {
-        out[i] = kept_at(i < choices, entries[i]);
+    while i < n {
+        out[i] = entries[i];
         i += 1;
     }
     out

@@ -1,13 +1,13 @@
 -- What the tests of the code say of a float, case by case. Assumes nothing.
-use mathlib.Core.Path.{_≡_, refl, sym}
-use mathlib.Core.Bool.{Bool, true, false, not}
+use mathlib.Core.Path.{_≡_, refl}
+use mathlib.Core.Bool.{Bool, true, false, cond, not, _&&_}
 use Prim.Native.Nat.{ℕ, zero, suc, _*_, _<_, suc-le-suc, zero-le}
-use native.Mathlib.Nat.{zero-mul, mul-pos}
+use native.Mathlib.Nat.{zero-mul, zero-div, mul-pos}
 use native.Mathlib.Omega.{arith}
-use lib.Dec.{T}
-use lib.Ieee.{Float, nan, inf, fin, binary32, up, down, lt, eq, ne, div, isNan, toBits}
+use lib.Dec.{T, eqb}
+use lib.Ieee.{Float, nan, inf, fin, binary32, up, down, lt, eq, ne, isNan, toBits}
 use lib.Ieee.Scale.{finite}
-use lib.Ieee.Fits.{up-pos, down-pos}
+use lib.Ieee.Fits.{up-pos}
 use lib.IntN.{ℤ, pos}
 use borrow.Author.Tests.{ne-eqb, eq-eqb}
 use Rattle.score.specs.TotalOrder.{negZero, posZero}
@@ -24,18 +24,13 @@ nan-is (inf false) = refl
 nan-is (fin true m e) = simp (eq-eqb (m * up e * down e) (m * up e * down e) refl)
 nan-is (fin false m e) = simp (eq-eqb (m * up e * down e) (m * up e * down e) refl)
 
-pub below-top : (x : Float) → lt x (inf false) ≡ true → lt (inf true) x ≡ finite x
+-- between the infinities
+pub between : (x : Float) → (lt x (inf false) && lt (inf true) x) ≡ finite x
 unfolding lt
-below-top nan h = refl
-below-top (inf true) h = refl
-below-top (inf false) h = sym h
-below-top (fin s m e) h = refl
-
-pub not-below-top : (x : Float) → lt x (inf false) ≡ false → false ≡ finite x
-unfolding lt
-not-below-top nan h = refl
-not-below-top (inf s) h = refl
-not-below-top (fin s m e) h = sym h
+between nan = refl
+between (inf true) = refl
+between (inf false) = refl
+between (fin s m e) = refl
 
 is-zero : (s : Bool) (e : ℤ) → eq (fin s 0 e) zero32 ≡ true
 unfolding eq
@@ -48,21 +43,32 @@ no-zero s m e =
     let p : 0 < suc m * up e = mul-pos (suc-le-suc zero-le) (up-pos e) in
     simp (ne-eqb (suc m * up e * 1) (0 * down e) (λ h. omega arith))
 
--- 1 / x tells the zeros apart
-pub zero-then-neg : (x : Float) → eq x zero32 ≡ true → lt (div binary32 (fin false 1 (pos 0)) x) zero32 ≡ negZero x
-unfolding eq div lt
-zero-then-neg nan h = refl
+-- a zero has no bits but its sign
+zero-bits : (s : Bool) (e : ℤ) → toBits binary32 (fin s 0 e) ≡ cond s 2147483648 0
+unfolding toBits
+zero-bits true e = simp (zero-mul, zero-div)
+zero-bits false e = simp (zero-mul, zero-div)
+
+pub zero-no-nan : (x : Float) → eq x zero32 ≡ true → T (not (isNan x))
+unfolding eq isNan
+zero-no-nan nan h = absurd (let z : _≡_ {A = ℕ} 0 1 = cc in omega arith)
+zero-no-nan (inf s) h = tt
+zero-no-nan (fin s m e) h = tt
+
+pub zero-then-neg : (x : Float) → eq x zero32 ≡ true → not (eqb (toBits binary32 x) 0) ≡ negZero x
+unfolding eq
+zero-then-neg nan h = cc
 zero-then-neg (inf s) h = cc
-zero-then-neg (fin true zero e) h = refl
-zero-then-neg (fin false zero e) h = refl
+zero-then-neg (fin true zero e) h = rw (zero-bits true e)
+zero-then-neg (fin false zero e) h = rw (zero-bits false e)
 zero-then-neg (fin s (suc m) e) h = cc (no-zero s m e)
 
-pub zero-then-pos : (x : Float) → eq x zero32 ≡ true → lt zero32 (div binary32 (fin false 1 (pos 0)) x) ≡ posZero x
-unfolding eq div lt
-zero-then-pos nan h = refl
+pub zero-then-pos : (x : Float) → eq x zero32 ≡ true → eqb (toBits binary32 x) 0 ≡ posZero x
+unfolding eq
+zero-then-pos nan h = cc
 zero-then-pos (inf s) h = cc
-zero-then-pos (fin true zero e) h = refl
-zero-then-pos (fin false zero e) h = refl
+zero-then-pos (fin true zero e) h = rw (zero-bits true e)
+zero-then-pos (fin false zero e) h = rw (zero-bits false e)
 zero-then-pos (fin s (suc m) e) h = cc (no-zero s m e)
 
 pub nonzero-neg : (x : Float) → eq x zero32 ≡ false → false ≡ negZero x

@@ -1,7 +1,7 @@
 -- The best of a list of scores, from document 01, "Added by us". Definitions and their laws.
 use Prim.Native.Nat.{ℕ, zero, suc, _+_, _≤_, _<_}
-use mathlib.Core.Path.{_≡_, refl, ap, _∙_}
-use mathlib.Core.Bool.{Bool, cond}
+use mathlib.Core.Path.{_≡_, refl}
+use mathlib.Core.Bool.{cond}
 use mathlib.Core.List.{List}
 use native.Mathlib.Nat.{le-refl}
 use native.Mathlib.Numerals.{add-one}
@@ -10,7 +10,7 @@ use borrow.Author.Tests.{lt-ltb, le-ltb}
 use lib.Dec.{ltb}
 use lib.ListN.{getD}
 use lib.Ieee.{nan}
-use Rattle.counting.specs.Fold.{foldTo, fold-ext}
+use Rattle.counting.specs.Fold.{foldTo}
 use Rattle.counting.specs.Tests.{bool-cases}
 use Rattle.score.specs.declared.Score.{Score}
 use Rattle.score.specs.declared.Ranked.{Ranked}
@@ -81,18 +81,6 @@ best-later scores n = rw add-one
 pub best-done : (scores : List Score) (count n : ℕ) → count ≤ 64 → n + 1 ≡ count → bestOf scores count ≡ answer 0 (At (bestTo scores n))
 unfolding bestOf
 best-done scores count n h e = rw (le-ltb 64 count h, ← e, add-one)
-
-to-ext : (a b : List Score) (n : ℕ) → ((k : ℕ) → k < suc n → getD a k noScore ≡ getD b k noScore) → bestTo a n ≡ bestTo b n
-unfolding bestTo
-to-ext a b n h =
-    ap (λ s. foldTo betterOf (ranked 0 s) n (laterAt a)) (h 0 (omega arith))
-    ∙ fold-ext betterOf (rankedAt b 0) n (laterAt a) (laterAt b) (λ k l. ap (λ s. ranked (suc k) s) (h (suc k) (omega arith)))
-
--- only the first `count` scores are read
-pub best-ext : (a b : List Score) (count : ℕ) → ((k : ℕ) → k < count → getD a k noScore ≡ getD b k noScore) → bestOf a count ≡ bestOf b count
-unfolding bestOf
-best-ext a b zero h = refl
-best-ext a b (suc n) h = ap (λ r. cond (ltb 64 (suc n)) (refused 1) (answer 0 (At r))) (to-ext a b n h)
 
 better-place : (held later : Ranked) (n : ℕ) → held .position ≤ n → later .position ≤ n → betterOf held later .position ≤ n
 unfolding betterOf

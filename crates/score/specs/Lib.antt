@@ -1,5 +1,7 @@
 -- score.rs: IEEE 754's totalOrder, the order of scores, the best of a list, and worked examples.
 pub mod TotalOrder
 pub mod Order
+pub mod Before
 pub mod Best
+pub mod Listed
 pub mod Sample

@@ -1,11 +1,16 @@
 // score.rs: scores, their order, and the best of a list.
 ghost use mathlib.Core.Path.{_≡_};
-ghost use mathlib.Core.Bool.{false};
+ghost use mathlib.Core.Bool.{cond};
+ghost use Prim.Native.Nat.{_+_, _*_, _<_, _≤_, _-_};
 ghost use lib.Ieee.{nan, isNan, toBits, binary32};
 ghost use lib.Ieee.Scale as Scale;
-ghost use Rattle.score.specs.TotalOrder.{negZero, posZero, totalOrder, totalCompare};
-ghost use Rattle.score.specs.Order.{infiniteTwice, finiteScore, finiteOrder, scoreOrder, orderNumber, isLess};
-ghost use Rattle.score.specs.Best.{betterOf, refused, bestOf};
+ghost use lib.ListN.{length};
+ghost use Rattle.counting.specs.Lent.{old};
+ghost use Rattle.score.specs.TotalOrder.{negZero, posZero};
+ghost use Rattle.score.specs.Order.{infiniteTwice, finiteScore, scoreOrder, orderNumber, isLess};
+ghost use Rattle.score.specs.Before.{isBefore, plainOrder, beatsHeld};
+ghost use Rattle.score.specs.Best.{refused, bestTo};
+ghost use Rattle.score.specs.Listed.{scoreAt, scoresIn, bestIn};
 
 // A score: less is better.
 pub struct Score {
@@ -52,18 +57,15 @@ fn is_nan(x: f32) -> bool
 fn finite(x: f32) -> bool
     ensures { λ r. ⌜ r ≡ Scale.finite x ⌝ }
 {
-    if x < 1.0 / 0.0 {
-        return -1.0 / 0.0 < x;
-    }
-    false
+    (x < 1.0 / 0.0) & (-1.0 / 0.0 < x)
 }
 
-// A quotient tells the zeros apart.
+// The zeros are equal, and told apart by their bits: +0 has none.
 fn negative_zero(x: f32) -> bool
     ensures { λ r. ⌜ r ≡ negZero x ⌝ }
 {
     if x == 0.0 {
-        return 1.0 / x < 0.0;
+        return f32::to_bits(x) != 0;
     }
     false
 }
@@ -72,40 +74,16 @@ fn positive_zero(x: f32) -> bool
     ensures { λ r. ⌜ r ≡ posZero x ⌝ }
 {
     if x == 0.0 {
-        return 0.0 < 1.0 / x;
+        return f32::to_bits(x) == 0;
     }
     false
 }
 
-// IEEE 754's totalOrder: whether x is before y, or equal to it.
-fn total_order(x: f32, y: f32) -> bool
-    ensures { λ r. ⌜ r ≡ totalOrder x y ⌝ }
+// Of two numbers, whether x is before y: less, or -0 beside +0. A NaN is before nothing, and nothing before it.
+fn precedes(x: f32, y: f32) -> bool
+    ensures { λ r. ⌜ r ≡ isBefore x y ⌝ }
 {
-    if is_nan(y) {
-        return true;
-    }
-    if is_nan(x) {
-        return false;
-    }
-    if x < y {
-        return true;
-    }
-    if y < x {
-        return false;
-    }
-    !(positive_zero(x) & negative_zero(y))
-}
-
-fn total_cmp(x: f32, y: f32) -> Ordering
-    ensures { λ r. ⌜ r ≡ totalCompare x y ⌝ }
-{
-    if total_order(x, y) {
-        if total_order(y, x) {
-            return Ordering::Equal;
-        }
-        return Ordering::Less;
-    }
-    Ordering::Greater
+    (x < y) | (negative_zero(x) & positive_zero(y))
 }
 
 // The bits of a float: 7FC00000 hexadecimal for NaN, whose bits in memory are not fixed.
@@ -129,16 +107,6 @@ impl Ordering {
             Ordering::Greater => 1,
         }
     }
-
-    fn is_less(self) -> bool
-        ensures { λ r. ⌜ r ≡ isLess self ⌝ }
-    {
-        match self {
-            Ordering::Less => true,
-            Ordering::Equal => false,
-            Ordering::Greater => false,
-        }
-    }
 }
 
 impl Score {
@@ -158,47 +126,113 @@ impl Score {
         finite(self.minor) & (finite(self.major) | is_nan(self.major))
     }
 
-    // Two finite scores: majors first, unless one of them is NaN.
+    // Two finite scores: majors first. A NaN among these is before nothing, so that the minors decide.
     fn cmp_finite(self, other: Score) -> Ordering
-        ensures { λ r. ⌜ r ≡ finiteOrder self other ⌝ }
+        ensures { λ r. ⌜ r ≡ plainOrder self other ⌝ }
     {
-        if is_nan(self.major) | is_nan(other.major) {
-            return total_cmp(self.minor, other.minor);
+        if precedes(self.major, other.major) {
+            return Ordering::Less;
         }
-        let by_major = total_cmp(self.major, other.major);
-        match by_major {
-            Ordering::Less => Ordering::Less,
-            Ordering::Equal => total_cmp(self.minor, other.minor),
-            Ordering::Greater => Ordering::Greater,
+        if precedes(other.major, self.major) {
+            return Ordering::Greater;
         }
+        if precedes(self.minor, other.minor) {
+            return Ordering::Less;
+        }
+        if precedes(other.minor, self.minor) {
+            return Ordering::Greater;
+        }
+        Ordering::Equal
     }
 
     pub fn cmp(self, other: Score) -> Ordering
         ensures { λ r. ⌜ r ≡ scoreOrder self other ⌝ }
     {
-        if self.is_finite() {
-            if other.is_finite() {
-                return self.cmp_finite(other);
-            }
+        let left = self.is_finite();
+        let right = other.is_finite();
+        if left & right {
+            return self.cmp_finite(other);
+        }
+        if left {
             return Ordering::Less;
         }
-        if other.is_finite() {
+        if right {
             return Ordering::Greater;
         }
         Ordering::Equal
     }
+
+    // Two finite scores: whether cmp_finite gives Less. No branch, since a walk cannot foretell it.
+    fn is_less(self, other: Score) -> bool
+        ensures { λ r. ⌜ r ≡ isLess (plainOrder self other) ⌝ }
+    {
+        let major = precedes(self.major, other.major);
+        let greater = precedes(other.major, self.major);
+        let minor = precedes(self.minor, other.minor);
+        major | (!greater & minor)
+    }
+
+    // Whether it is less than a score that is held, of which is known whether it is finite.
+    fn beats(self, held: Score, fine: bool) -> bool
+        ensures { λ r. ⌜ r ≡ beatsHeld self held fine ⌝ }
+    {
+        let less = self.is_less(held);
+        self.is_finite() & (!fine | less)
+    }
 }
 
-// The later one only where it is less.
-fn better(held: Ranked, later: Ranked) -> Ranked
-    ensures { λ r. ⌜ r ≡ betterOf held later ⌝ }
+fn pick_score(test: bool, yes: Score, no: Score) -> Score
+    ensures { λ r. ⌜ r ≡ cond test yes no ⌝ }
 {
-    let old = held.score;
-    let new = later.score;
-    if new.cmp(old).is_less() {
-        return later;
+    if test {
+        return yes;
     }
-    held
+    no
+}
+
+fn pick_place(test: bool, yes: usize, no: usize) -> usize
+    ensures { λ r. ⌜ r ≡ cond test yes no ⌝ }
+{
+    if test {
+        return yes;
+    }
+    no
+}
+
+// The score at a place of a list of floats: major, minor, major, minor, ..
+fn score_at(floats: &[f32], place: usize) -> Score
+    requires { ⌜ (place < 64) × (2 * place + 1 < length (now floats)) ⌝ }
+    ensures { λ r. ⌜ r ≡ scoreAt (old floats) place ⌝ }
+{
+    let at = 2 * place;
+    Score {
+        major: floats[at],
+        minor: floats[at + 1],
+    }
+}
+
+// The best of at least one score, read where it lies. What is held stays apart in numbers, so that no step waits for memory.
+fn best_among(floats: &[f32], count: usize) -> Ranked
+    requires { ⌜ (0 < count) × (count ≤ 64) × (length (now floats) ≡ 2 * count) ⌝ }
+    ensures { λ r. ⌜ r ≡ bestTo (scoresIn (old floats) count) (count - 1) ⌝ }
+{
+    let mut held = score_at(floats, 0);
+    let mut fine = held.is_finite();
+    let mut position = 0;
+    let mut passed = 0;
+    while passed + 1 < count {
+        let place = passed + 1;
+        let later = score_at(floats, place);
+        let less = later.beats(held, fine);
+        held = pick_score(less, later, held);
+        fine = fine | less;
+        position = pick_place(less, place, position);
+        passed = place;
+    }
+    Ranked {
+        position: position,
+        score: held,
+    }
 }
 
 fn refuse(number: u32) -> BestAnswer
@@ -210,35 +244,21 @@ fn refuse(number: u32) -> BestAnswer
     }
 }
 
-// The best of the first `count` scores; 1 where these are more than 64.
-pub fn best(scores: [Score; 64], count: usize) -> BestAnswer
-    ensures { λ r. ⌜ r ≡ bestOf scores count ⌝ }
+// The best of `count` scores, listed as major, minor, major, minor, ..; 1 where these are more than 64, and 2 where they are not listed exactly.
+pub fn best(floats: &[f32], count: usize) -> BestAnswer
+    ensures { λ r. ⌜ r ≡ bestIn (old floats) count ⌝ }
 {
     if count > 64 {
         return refuse(1);
     }
+    if floats.len() != 2 * count {
+        return refuse(2);
+    }
     if count == 0 {
         return refuse(0);
     }
-    let mut held = Ranked {
-        position: 0,
-        score: scores[0],
-    };
-    let mut passed = 0;
-    while passed + 1 < count {
-        let i = passed + 1;
-        let score = scores[i];
-        held = better(
-            held,
-            Ranked {
-                position: i,
-                score: score,
-            },
-        );
-        passed = i;
-    }
     BestAnswer {
         number: 0,
-        best: BestScore::At(held),
+        best: BestScore::At(best_among(floats, count)),
     }
 }

@@ -8,13 +8,13 @@ use lib.Ieee.{Float, fin}
 use lib.ListN.{length}
 use Rattle.assignment.specs.Calls.{besidePlan, seats}
 use Rattle.assignment.specs.Plan.{badPlanFor}
+use Rattle.input_data.specs.Bytes.{dayOf, lentNumber}
 use Rattle.input_data.specs.Checks.{firstOf, dayNumber, badPreferences}
 use Rattle.input_data.specs.Lengths.{planLength, preferencesLength, powersLength}
 use Rattle.input_data.specs.declared.Limits.{Limits}
 use Rattle.input_data.specs.declared.InputData.{InputData}
 use Rattle.input_data.specs.declared.checks.Beside.{Beside}
-use Rattle.schedule_state.specs.Calls.{outside}
-use Rattle.schedule_state.specs.State.{keptOf}
+use Rattle.scheduling.specs.Handed.{scheduleOf, notSchedule, outside, keptOf}
 use Rattle.scheduling.specs.declared.Scheduling.{Scheduling}
 use Rattle.score.specs.Order.{infiniteTwice}
 use Rattle.score.specs.declared.Score.{Score}
@@ -107,8 +107,47 @@ noScore = record { major = fin false 0 (pos 0); minor = fin false 0 (pos 0) }
 abbrev pub score : ℕ → Score → ScoreAnswer
 score n s = record { number = n; score = s }
 
+-- the number, and the score or zeros
+abbrev pub scoreOr : ℕ → Score → ScoreAnswer
+scoreOr n s = cond (eqb n 0) (score 0 s) (score n noScore)
+
 unfoldable pub evaluateAnswer : Limits → InputData → Solution → Scheduling → List ℕ → Bool → List ℕ → List Float → ScoreAnswer
 evaluateAnswer l d kind sch plan greedy preferences powers =
-    cond (eqb (evaluateNumber l d kind sch plan preferences (length powers)) 0)
-    (score 0 (scored d kind greedy preferences powers sch plan))
-    (score (evaluateNumber l d kind sch plan preferences (length powers)) noScore)
+    scoreOr (evaluateNumber l d kind sch plan preferences (length powers)) (scored d kind greedy preferences powers sch plan)
+
+-- ---- the calls, on lent bytes: the same answers, with 2 where bytes have not their length
+
+abbrev pub scheduleLentNumber : Limits → List ℕ → List ℕ → ℕ
+scheduleLentNumber l day sch = lentNumber l day (notSchedule sch) (scheduleNumber l (dayOf day) (scheduleOf sch))
+
+abbrev pub verdictLentNumber : Limits → List ℕ → List ℕ → List ℕ → ℕ
+verdictLentNumber l day sch plan = lentNumber l day (notSchedule sch) (verdictNumber l (dayOf day) (scheduleOf sch) plan)
+
+unfoldable pub schedulingLent : Limits → List ℕ → List ℕ → VerdictAnswer
+schedulingLent l day sch =
+    verdictOf (scheduleLentNumber l day sch)
+    (schedulingMet (dayOf day) (keptOf (dayOf day) (scheduleOf sch)))
+
+unfoldable pub scheduleLent : Limits → List ℕ → List ℕ → VerdictAnswer
+scheduleLent l day sch =
+    verdictOf (scheduleLentNumber l day sch)
+    (scheduleFeasible (dayOf day) (keptOf (dayOf day) (scheduleOf sch)))
+
+unfoldable pub assignmentLent : Limits → List ℕ → List ℕ → List ℕ → VerdictAnswer
+assignmentLent l day sch plan =
+    verdictOf (verdictLentNumber l day sch plan)
+    (assignmentMet (dayOf day) (keptOf (dayOf day) (scheduleOf sch)) plan)
+
+unfoldable pub planLent : Limits → List ℕ → List ℕ → List ℕ → VerdictAnswer
+planLent l day sch plan =
+    verdictOf (verdictLentNumber l day sch plan)
+    (planFeasible (dayOf day) (keptOf (dayOf day) (scheduleOf sch)) plan)
+
+-- a schedule is looked at where the solution has one
+abbrev pub evaluateLentNumber : Limits → List ℕ → Solution → List ℕ → List ℕ → List ℕ → ℕ → ℕ
+evaluateLentNumber l day kind sch plan preferences powers =
+    lentNumber l day (hasSchedule kind && notSchedule sch) (evaluateNumber l (dayOf day) kind (scheduleOf sch) plan preferences powers)
+
+unfoldable pub evaluateLent : Limits → List ℕ → Solution → List ℕ → List ℕ → Bool → List ℕ → List Float → ScoreAnswer
+evaluateLent l day kind sch plan greedy preferences powers =
+    scoreOr (evaluateLentNumber l day kind sch plan preferences (length powers)) (scored (dayOf day) kind greedy preferences powers (scheduleOf sch) plan)

@@ -35,9 +35,13 @@ scheduleFeasible d sch = allPlaced d sch && allSeated d sch && schedulingMet d s
 
 -- ---- a plan
 
+-- from min to max seats for each choice that has a slot
+abbrev pub filledBy : InputData → List ℕ → List ℕ → Bool
+filledBy d sch plan = allFilled (d .choices) sch (d .mins) (d .maxs) (partCount (seats d) plan)
+
 -- Scoring::is_feasible: both lists of constraints, no chooser in a slot twice, and from min to max seats for each choice that has a slot
 unfoldable pub planFeasible : InputData → List ℕ → List ℕ → Bool
 planFeasible d sch plan =
     schedulingMet d sch && assignmentMet d sch plan
     && noneTwice (d .choosers) (d .slots) sch plan
-    && allFilled (d .choices) sch (d .mins) (d .maxs) (partCount (seats d) plan)
+    && filledBy d sch plan

@@ -4,12 +4,11 @@ use mathlib.Core.Path.{_≡_, refl, sym, ap, ap₂, _∙_}
 use mathlib.Core.Bool.{Bool, true, false, not, _&&_, _||_, or-false}
 use mathlib.Core.List.{List}
 use mathlib.Core.Logic.{_≢_}
-use native.Mathlib.Nat.{le-refl, mul-le-mul}
+use native.Mathlib.Nat.{mul-le-mul}
 use native.Mathlib.Omega.{arith}
 use lib.Dec.{eqb, ltb, leb}
-use lib.Ieee.{Float}
-use lib.ListN.{length, getD}
-use borrow.Author.Tests.{eqb-true, eqb-false, ne-eqb, ltb-true, ltb-false, leb-false, not-false}
+use lib.ListN.{length}
+use borrow.Author.Tests.{eqb-true, eqb-false, eq-eqb, ne-eqb, ltb-true, ltb-false, leb-false, not-false}
 use Rattle.assignment.specs.Calls.{besidePlan, seats}
 use Rattle.assignment.specs.Laws.{Small, small, seats-most, plan-accepted}
 use Rattle.assignment.specs.Plan.{choiceOf, unseated, badPlanFor}
@@ -23,34 +22,32 @@ use Rattle.counting.specs.Lists.{length-table}
 use Rattle.counting.specs.Sums.{grid-lt}
 use Rattle.counting.specs.Tests.{or-split, none-each, eq-cases, never}
 use Rattle.input_data.specs.Accepted.{Accepted, accepted, past, first-zero}
+use Rattle.input_data.specs.Bytes.{IsDay, dayOf, wider, lentNumber}
+use Rattle.input_data.specs.BytesLaws.{lent-number, lent-zero, lent-is}
 use Rattle.input_data.specs.Checks.{firstOf, dayNumber, badPreferences, aboveAt, tooMany}
 use Rattle.input_data.specs.Day.{numbersAt, constraintAt}
 use Rattle.input_data.specs.Fits.{left-is, right-is}
-use Rattle.input_data.specs.Lengths.{Within, listsLength, planLength, preferencesLength, powersLength}
+use Rattle.input_data.specs.Numbered.{AsNumbers, WithExtra, Numbered, scheduling-numbered, assignment-numbered}
+use Rattle.input_data.specs.Lengths.{Within, planLength, preferencesLength, powersLength}
 use Rattle.input_data.specs.Operands.{leftCase, rightCase, isOneOf}
 use Rattle.input_data.specs.declared.Limits.{Limits}
 use Rattle.input_data.specs.declared.InputData.{InputData}
 use Rattle.satisfies_constraints.specs.Laws.{InPlan, OperandsIn, ListIn}
-use Rattle.schedule_state.specs.Calls.{outside}
-use Rattle.schedule_state.specs.Good.{Ready, kept-fits, weighs}
-use Rattle.schedule_state.specs.Numbers.{first-applies}
-use Rattle.schedule_state.specs.State.{keptOf}
+use Rattle.scheduling.specs.Handed.{scheduleOf, notSchedule, outside, keptOf, schedule-long, kept-inside}
 use Rattle.scheduling.specs.Schedule.{entryAt, keptAt, kept-at}
 use Rattle.scheduling.specs.declared.Scheduling.{Scheduling}
 use Rattle.seat_counts.specs.Laws.{Seated, Choices, Parts, Reading}
 use Rattle.seat_counts.specs.Seats.{filledAt, allFilled, partCount}
-use Rattle.slot_lists.specs.Sums.{Weighs, Sums}
-use Rattle.scoring.specs.Calls.{verdict, verdictOf, besideNone, scheduleNumber, badSeats, partsNumber, verdictNumber, hasSchedule, hasPlan, besideTables, evaluateNumber, scored, noScore, score, evaluateAnswer}
-use Rattle.scoring.specs.Feasible.{seatsAll, allSeated}
+use Rattle.slot_lists.specs.Sums.{added, Adds, Weighs, Sums, Unweighed, unweighed-none, sums-next, sums-most}
+use Rattle.scoring.specs.Calls.{verdict, verdictOf, besideNone, scheduleNumber, scheduleAnswer, badSeats, partsNumber, verdictNumber, planAnswer, hasSchedule, hasPlan, besideTables, evaluateNumber, noScore, score, scoreOr, scheduleLent, planLent, evaluateLentNumber}
+use Rattle.score.specs.declared.Score.{Score}
+use Rattle.scoring.specs.Feasible.{seatsAll, allSeated, scheduleFeasible, planFeasible}
 use Rattle.scoring.specs.declared.ScoreAnswer.{ScoreAnswer}
 use Rattle.scoring.specs.declared.Solution.{Solution}
 use Rattle.scoring.specs.declared.Solution.the-variants as Solution
 use Rattle.scoring.specs.declared.VerdictAnswer.{VerdictAnswer}
 
 -- ---- what the tests of a schedule and of a plan ask
-
-abbrev pub placedIn : ℕ → List ℕ → List Bool → Bool
-placedIn choices sch optional = allTo choices (λ k. not (eqb (entryAt sch k) 0) || getD optional k false)
 
 abbrev pub seatsIn : ℕ → ℕ → List ℕ → List ℕ → Bool
 seatsIn choosers slots mins maxs = allTo slots (λ s. leb (entryAt mins s) choosers && leb choosers (entryAt maxs s))
@@ -60,11 +57,14 @@ pub record Schedulable (d : InputData) (sch : List ℕ) : Type 0 where
   pub mins : Weighs sch (d .mins) (d .choices)
   pub maxs : Weighs sch (d .maxs) (d .choices)
   pub count : d .scheduling .count ≤ 32
+  pub numbers : Numbered WithExtra (d .scheduling)
   pub long : length sch ≡ 32
 
 pub record Judged (d : InputData) (sch plan : List ℕ) : Type 0 where
   pub day : Small d
   pub count : d .scheduling .count ≤ 32
+  pub scheduling : Numbered WithExtra (d .scheduling)
+  pub assignment : Numbered AsNumbers (d .assignment)
   pub list : ListIn (d .choosers) (d .assignment)
   pub inside : InPlan (d .choosers) (d .slots) (length plan)
   pub seated : Seated (d .choosers) (d .slots) sch plan
@@ -76,7 +76,47 @@ pub record Weighed (d : InputData) (preferences : List ℕ) (powers : ℕ) (plan
   pub most : d .«max_preference» ≤ 255
   pub table : d .«max_preference» < powers
 
+-- a lent day whose score is asked for, with its tables and a plan
+pub record Evaluable (day preferences : List ℕ) (powers : ℕ) (sch plan : List ℕ) : Type 0 where
+  pub long : IsDay day
+  pub judged : Judged (dayOf day) sch plan
+  pub weighed : Weighed (dayOf day) preferences powers plan
+
+-- a lent day whose sizes may be multiplied
+pub record Multiplied (l : Limits) (day : List ℕ) : Type 0 where
+  pub long : IsDay day
+  pub within : Within l
+  pub few : tooMany l (dayOf day .choosers) (dayOf day .choices) (dayOf day .slots) ≡ false
+
+-- a lent day with the parts of a solution that are there
+pub record Parted (scheduled seated : Bool) (day sch : List ℕ) (size : ℕ) : Type 0 where
+  pub long : IsDay day
+  pub small : Small (dayOf day)
+  pub schedule : scheduled ≡ true → length sch ≡ 32
+  pub plan : seated ≡ true → (length sch ≡ 32) × (seats (dayOf day) ≤ size)
+
 -- ---- laws
+
+-- a schedule of n choices, and how much they weigh by min and by max
+pub record Weighable (d : InputData) (sch : List ℕ) (n : ℕ) : Type 0 where
+  pub mins : Weighs sch (d .mins) n
+  pub maxs : Weighs sch (d .maxs) n
+
+-- two arrays with the sums of min and of max
+pub record SizeSums (d : InputData) (sch : List ℕ) (n : ℕ) (a c : List ℕ) : Type 0 where
+  pub mins : Sums (entryAt (d .mins)) (entryAt sch) n a
+  pub maxs : Sums (entryAt (d .maxs)) (entryAt sch) n c
+
+pub sizes-none : {a c : List ℕ} (d : InputData) (sch : List ℕ) → Unweighed a c → SizeSums d sch 0 a c
+sizes-none d sch p = record { mins = unweighed-none (d .mins) sch (record { lens = p .lens; covered = p .lens }) .covered; maxs = unweighed-none (d .maxs) sch p .covered }
+
+-- one choice more, and that its weights fit
+module _ {sch w : List ℕ} {n i : ℕ} {a : List ℕ} (h : Weighs sch w n) (l : i < n) (p : Sums (entryAt w) (entryAt sch) i a) where
+  pub adds-size : Adds (entryAt sch i) (entryAt w i) a
+  adds-size = record { small = h .small i l; fits = λ d. omega (arith, h .count, h .light i l, sums-most p 1000 (λ j b. h .light j (omega arith)) (entryAt sch i) (h .small i l) d) }
+
+  pub size-next : Sums (entryAt w) (entryAt sch) (i + 1) (added (entryAt sch i) (entryAt w i) a)
+  size-next = sums-next p (h .small i l)
 
 -- sums that an array holds
 pub seated-sums : (d : InputData) (sch : List ℕ) {mins maxs : List ℕ} → d .slots ≤ 8 → Sums (entryAt (d .mins)) (entryAt sch) (d .choices) mins → Sums (entryAt (d .maxs)) (entryAt sch) (d .choices) maxs → seatsIn (d .choosers) (d .slots) mins maxs ≡ allSeated d sch
@@ -90,9 +130,11 @@ unfolding allFilled
 filled-parts {n = n} {choices = choices} sch mins maxs {plan = plan} {counts = counts} h p = fold-ext _&&_ true choices (filledAt sch mins maxs (entryAt counts)) (filledAt sch mins maxs (partCount n plan))
     (λ k b. ap (λ (x : ℕ). not (not (eqb (entryAt sch k) 0)) || (leb (entryAt mins k) x && leb x (entryAt maxs k))) (p .at k (omega arith)))
 
--- a day is ready with a buffer of its length
-ready : {l : Limits} {d : InputData} → Within l → Accepted l d → Ready l d (listsLength l)
-ready {l = l} w a = record { within = w; day = a; room = le-refl (listsLength l) }
+-- a schedule that was accepted weighs the day's choices
+weighs : {l : Limits} {d : InputData} → Within l → Accepted l d → (sch : Scheduling) → outside d sch ≡ false → (w : List ℕ) → ((k : ℕ) → k < d .choices → entryAt w k ≤ 1000) → Weighs (keptOf d sch) w (d .choices)
+weighs {d = d} w a sch i v light =
+    let s = small w a in
+    record { count = s .choices; small = λ k h. omega (arith, kept-inside d sch (s .choices) i k h, s .slots); light = light }
 
 -- the constraints of an accepted list name choosers of the day
 module _ {l : Limits} {d : InputData} (a : Accepted l d) (j : ℕ) (h : j < d .assignment .count) where
@@ -122,20 +164,31 @@ list-in a = record { count = a .assignment .count; each = λ j h. operands-in a 
 
 -- ---- a schedule that was accepted
 
-pub schedule-accepted : (l : Limits) (d : InputData) (sch : Scheduling) → Within l → scheduleNumber l d sch ≡ 0 → Schedulable d (keptOf d sch)
+schedule-accepted : (l : Limits) (d : InputData) (sch : Scheduling) → Within l → scheduleNumber l d sch ≡ 0 → Schedulable d (keptOf d sch)
 unfolding scheduleNumber
 schedule-accepted l d sch w e =
     let rest = firstOf (outside d sch) 11 0 in
     let a = accepted l d besideNone rest w e in
-    let r = ready w a in
     let i = first-zero (outside d sch) 11 0 (omega arith) (past l d besideNone rest e .none) .0 in
     record {
       day = small w a;
-      mins = weighs r sch i (d .mins) (λ k h. omega (arith, a .min-max k h, a .max-most k h));
-      maxs = weighs r sch i (d .maxs) (a .max-most);
+      mins = weighs w a sch i (d .mins) (λ k h. omega (arith, a .min-max k h, a .max-most k h));
+      maxs = weighs w a sch i (d .maxs) (a .max-most);
       count = a .scheduling .count;
+      numbers = scheduling-numbered (omega (arith, small w a .slots)) (a .scheduling);
       long = length-table 32 (keptAt (d .choices) (sch .entries));
     }
+
+-- .. and the bytes in which it was lent
+pub record ScheduleLent (day sch : List ℕ) : Type 0 where
+  pub long : IsDay day
+  pub entries : length sch ≡ 32
+  pub schedulable : Schedulable (dayOf day) (keptOf (dayOf day) (scheduleOf sch))
+
+pub schedule-lent : (l : Limits) (day sch : List ℕ) → Within l → lentNumber l day (notSchedule sch) (scheduleNumber l (dayOf day) (scheduleOf sch)) ≡ 0 → ScheduleLent day sch
+schedule-lent l day sch w e =
+    let p = lent-zero l day (notSchedule sch) (scheduleNumber l (dayOf day) (scheduleOf sch)) e in
+    record { long = p .day; entries = schedule-long sch (p .right); schedulable = schedule-accepted l (dayOf day) (scheduleOf sch) w (p .zero) }
 
 -- ---- a plan that was accepted beside its schedule
 
@@ -150,10 +203,11 @@ module _ {l : Limits} {d : InputData} (sch : Scheduling) (plan : List ℕ) (w : 
   pub judged : Judged d (keptOf d sch) plan
   judged =
       let s = small w a in
-      let r = ready w a in
       record {
         day = s;
         count = a .scheduling .count;
+        scheduling = scheduling-numbered (omega (arith, s .slots)) (a .scheduling);
+        assignment = assignment-numbered (a .assignment);
         list = list-in a;
         inside = record { few = s .choosers; short = s .slots; inside = long };
         seated = record {
@@ -162,7 +216,7 @@ module _ {l : Limits} {d : InputData} (sch : Scheduling) (plan : List ℕ) (w : 
           inside = long;
           choice = λ c t hc ht. omega (arith, s .choices, entry-fine (c * d .slots + t) (grid-lt hc ht) .0);
           slot = λ c t hc ht. entry-fine (c * d .slots + t) (grid-lt hc ht) .1;
-          small = λ c t hc ht. omega (arith, s .slots, kept-fits r sch i (choiceOf (d .slots) plan c t) (entry-fine (c * d .slots + t) (grid-lt hc ht) .0));
+          small = λ c t hc ht. omega (arith, s .slots, kept-inside d sch (s .choices) i (choiceOf (d .slots) plan c t) (entry-fine (c * d .slots + t) (grid-lt hc ht) .0));
         };
         choices = record { few = seats-most s; inside = long; choice = λ n h. omega (arith, s .choices, entry-fine n h .0) };
         long = length-table 32 (keptAt (d .choices) (sch .entries));
@@ -189,13 +243,39 @@ parts-fine schedule seated d sch plan e =
     let p = first-zero (schedule && outside d sch) 11 _ (omega arith) e in
     (p .0, first-zero (seated && badSeats d sch plan) 13 0 (omega arith) (p .1) .0)
 
-pub verdict-accepted : (l : Limits) (d : InputData) (sch : Scheduling) (plan : List ℕ) → Within l → verdictNumber l d sch plan ≡ 0 → Judged d (keptOf d sch) plan
+verdict-accepted : (l : Limits) (d : InputData) (sch : Scheduling) (plan : List ℕ) → Within l → verdictNumber l d sch plan ≡ 0 → Judged d (keptOf d sch) plan
 unfolding verdictNumber
 verdict-accepted l d sch plan w e =
     let rest = partsNumber true true d sch plan in
     let a = plan-accepted l d plan false false rest w e in
     let p = parts-fine true true d sch plan (past l d (besidePlan l (length plan) false false) rest e .none) in
     judged sch plan w (a .day) (a .plan-in) (p .0) (p .1)
+
+-- .. and the bytes in which its day and schedule were lent
+pub record PlanLent (day sch plan : List ℕ) : Type 0 where
+  pub long : IsDay day
+  pub entries : length sch ≡ 32
+  pub judged : Judged (dayOf day) (keptOf (dayOf day) (scheduleOf sch)) plan
+
+pub verdict-lent : (l : Limits) (day sch plan : List ℕ) → Within l → lentNumber l day (notSchedule sch) (verdictNumber l (dayOf day) (scheduleOf sch) plan) ≡ 0 → PlanLent day sch plan
+verdict-lent l day sch plan w e =
+    let p = lent-zero l day (notSchedule sch) (verdictNumber l (dayOf day) (scheduleOf sch) plan) e in
+    record { long = p .day; entries = schedule-long sch (p .right); judged = verdict-accepted l (dayOf day) (scheduleOf sch) plan w (p .zero) }
+
+-- the plan's length, tested with the schedule's
+pub verdict-parts : (l : Limits) (day sch plan : List ℕ) {n : ℕ} → Within l → IsDay day → n ≡ dayNumber l (dayOf day) (wider (notSchedule sch) (besidePlan l (length plan) false false)) 0 → n ≡ 0 → Parted true true day sch (length plan)
+verdict-parts l day sch plan w h p z =
+    let e = sym p ∙ z in
+    let b = wider (notSchedule sch) (besidePlan l (length plan) false false) in
+    let a = accepted l (dayOf day) b 0 w e in
+    let u : (notSchedule sch ≡ false) × ((not (eqb (length plan) (planLength l)) || false) ≡ false) = or-split (past l (dayOf day) b 0 e .lengths) in
+    let n : length plan ≡ planLength l = eqb-true _ _ (not-false _ (sym (or-false (not (eqb (length plan) (planLength l)))) ∙ u .1)) in
+    let m : seats (dayOf day) ≤ planLength l = mul-le-mul (a .choosers) (a .slots) in
+    record { long = h; small = small w a; schedule = λ t. schedule-long sch (u .0); plan = λ t. (schedule-long sch (u .0), omega (arith, n, m)) }
+
+-- nothing else that is lent is short
+pub beside-plan : (l : Limits) (d : InputData) (wrong : Bool) (size rest : ℕ) {n : ℕ} → n ≡ dayNumber l d (record { lengths = wrong || not (eqb size (planLength l)); preferences = false; levels = false; costs = false; asked = false }) rest → n ≡ dayNumber l d (wider wrong (besidePlan l size false false)) rest
+beside-plan l d wrong size rest p = rw (or-false (not (eqb size (planLength l)))) p
 
 -- ---- answers
 
@@ -207,12 +287,7 @@ verdict-done n b e z p q = let y : n ≡ 0 = sym e ∙ z in p ∙ rw (q, y)
 
 -- ---- evaluate
 
--- a day that is too large is refused by 1, whatever else is tested
-pub evaluate-many : (l : Limits) (d : InputData) (kind : Solution) (sch : Scheduling) (plan preferences : List ℕ) (powers : ℕ) → tooMany l (d .choosers) (d .choices) (d .slots) ≡ true → 1 ≡ evaluateNumber l d kind sch plan preferences powers
-unfolding evaluateNumber dayNumber
-evaluate-many l d kind sch plan preferences powers e = first-applies _ 1 _ e
-
--- one that is not can be multiplied
+-- a day that is not too large can be multiplied
 pub cells-most : (l : Limits) (d : InputData) → Within l → tooMany l (d .choosers) (d .choices) (d .slots) ≡ false → d .choosers * d .choices ≤ 2048
 cells-most l d w e =
     let m : ((ltb (l .choosers) (d .choosers) || ltb (l .choices) (d .choices)) ≡ false) × (ltb (l .slots) (d .slots) ≡ false) = or-split e in
@@ -243,16 +318,13 @@ tabled l d there preferences powers plan rest w e =
       long = λ t. let n : plan ≡ planLength l = eqb-true _ _ (not-false _ (rw t at (u .1))) in let m : seats d ≤ planLength l = mul-le-mul (a .choosers) (a .slots) in omega (arith, n, m);
     }
 
-pub parts-ready : (l : Limits) (d : InputData) (there : Bool) (preferences : List ℕ) (powers plan : ℕ) → Within l → dayNumber l d (besideTables l d there preferences powers plan) 0 ≡ 0 → Small d × (there ≡ true → seats d ≤ plan)
-parts-ready l d there preferences powers plan w e = let t = tabled l d there preferences powers plan 0 w e in (small w (t .day), t .long)
-
 -- a plan comes with a schedule
 with-schedule : (k : Solution) → hasPlan k ≡ true → hasSchedule k ≡ true
 with-schedule Solution.Invalid e = never (sym e)
 with-schedule Solution.Scheduling e = refl
 with-schedule Solution.Complete e = refl
 
-pub evaluate-accepted : (l : Limits) (d : InputData) (kind : Solution) (sch : Scheduling) (plan preferences : List ℕ) (powers : ℕ) → Within l → evaluateNumber l d kind sch plan preferences powers ≡ 0 → hasPlan kind ≡ true → Judged d (keptOf d sch) plan × Weighed d preferences powers plan
+evaluate-accepted : (l : Limits) (d : InputData) (kind : Solution) (sch : Scheduling) (plan preferences : List ℕ) (powers : ℕ) → Within l → evaluateNumber l d kind sch plan preferences powers ≡ 0 → hasPlan kind ≡ true → Judged d (keptOf d sch) plan × Weighed d preferences powers plan
 unfolding evaluateNumber
 evaluate-accepted l d kind sch plan preferences powers w e h =
     let rest = partsNumber (hasSchedule kind) (hasPlan kind) d sch plan in
@@ -269,15 +341,40 @@ evaluate-accepted l d kind sch plan preferences powers w e h =
       },
     )
 
-module _ (l : Limits) (d : InputData) (kind : Solution) (sch : Scheduling) (plan : List ℕ) (greedy : Bool) (preferences : List ℕ) (powers : List Float) {m : ℕ} {r : ScoreAnswer} (e : m ≡ evaluateNumber l d kind sch plan preferences (length powers)) where
-  pub evaluate-refused : m ≢ 0 → r ≡ score m noScore → r ≡ evaluateAnswer l d kind sch plan greedy preferences powers
-  unfolding evaluateAnswer
-  evaluate-refused n p = p ∙ rw (ne-eqb (evaluateNumber l d kind sch plan preferences (length powers)) 0 (λ z. n (e ∙ z)), e)
+-- the bytes and tables of a call whose day's number is 0
+pub evaluate-parts : (l : Limits) (day : List ℕ) (kind : Solution) (sch preferences : List ℕ) (powers plan : ℕ) {n : ℕ} → Within l → IsDay day → n ≡ dayNumber l (dayOf day) (wider (hasSchedule kind && notSchedule sch) (besideTables l (dayOf day) (hasPlan kind) preferences powers plan)) 0 → n ≡ 0 → Parted (hasSchedule kind) (hasPlan kind) day sch plan
+evaluate-parts l day kind sch preferences powers plan w h p z =
+    let q = lent-zero l day (hasSchedule kind && notSchedule sch) (dayNumber l (dayOf day) (besideTables l (dayOf day) (hasPlan kind) preferences powers plan) 0) (sym (lent-number l day (hasSchedule kind && notSchedule sch) (besideTables l (dayOf day) (hasPlan kind) preferences powers plan) 0 h) ∙ sym p ∙ z) in
+    let t = tabled l (dayOf day) (hasPlan kind) preferences powers plan 0 w (q .zero) in
+    let s : hasSchedule kind ≡ true → length sch ≡ 32 = λ u. schedule-long sch (rw u at (q .right)) in
+    record { long = h; small = small w (t .day); schedule = s; plan = λ u. (s (with-schedule kind u), t .long u) }
 
-  pub evaluate-done : m ≡ 0 → r ≡ score 0 (scored d kind greedy preferences powers sch plan) → r ≡ evaluateAnswer l d kind sch plan greedy preferences powers
-  unfolding evaluateAnswer
-  evaluate-done z p = let y : evaluateNumber l d kind sch plan preferences (length powers) ≡ 0 = sym e ∙ z in p ∙ rw y
+pub evaluate-lent : (l : Limits) (day : List ℕ) (kind : Solution) (sch plan preferences : List ℕ) (powers : ℕ) → Within l → evaluateLentNumber l day kind sch plan preferences powers ≡ 0 → hasPlan kind ≡ true
+    → (length sch ≡ 32) × Evaluable day preferences powers (keptOf (dayOf day) (scheduleOf sch)) plan
+evaluate-lent l day kind sch plan preferences powers w e h =
+    let p = lent-zero l day (hasSchedule kind && notSchedule sch) (evaluateNumber l (dayOf day) kind (scheduleOf sch) plan preferences powers) e in
+    let q = evaluate-accepted l (dayOf day) kind (scheduleOf sch) plan preferences powers w (p .zero) h in
+    (schedule-long sch (rw (with-schedule kind h) at (p .right)), record { long = p .day; judged = q .0; weighed = q .1 })
 
--- nothing else that is lent is short
-pub beside-plan : (l : Limits) (d : InputData) (size rest : ℕ) {n : ℕ} → n ≡ dayNumber l d (record { lengths = not (eqb size (planLength l)); preferences = false; levels = false; costs = false; asked = false }) rest → n ≡ dayNumber l d (besidePlan l size false false) rest
-beside-plan l d size rest p = rw (or-false (not (eqb size (planLength l)))) p
+pub score-refused : (n : ℕ) (s : Score) {m : ℕ} {r : ScoreAnswer} → m ≡ n → m ≢ 0 → r ≡ score m noScore → r ≡ scoreOr n s
+score-refused n s e d p = p ∙ rw (ne-eqb n 0 (λ z. d (e ∙ z)), e)
+
+pub score-done : (n : ℕ) (s : Score) {m : ℕ} {t : Score} {r : ScoreAnswer} → m ≡ n → m ≡ 0 → r ≡ score 0 t → t ≡ s → r ≡ scoreOr n s
+score-done n s e z p q = let y : n ≡ 0 = sym e ∙ z in p ∙ rw (q, y)
+
+-- ---- bytes of their lengths: the answers are those on what they stand for
+
+module _ (l : Limits) (day sch : List ℕ) (h : IsDay day) (k : length sch ≡ 32) where
+  abbrev d : InputData
+  d = dayOf day
+
+  right : notSchedule sch ≡ false
+  right = ap not (eq-eqb (length sch) 32 k)
+
+  pub schedule-answer : scheduleLent l day sch ≡ scheduleAnswer l d (scheduleOf sch)
+  unfolding scheduleLent scheduleAnswer scheduleNumber
+  schedule-answer = ap (λ n. verdictOf n (scheduleFeasible d (keptOf d (scheduleOf sch)))) (lent-is l day (notSchedule sch) besideNone _ h right)
+
+  pub plan-answer : (plan : List ℕ) → planLent l day sch plan ≡ planAnswer l d (scheduleOf sch) plan
+  unfolding planLent planAnswer verdictNumber
+  plan-answer plan = ap (λ n. verdictOf n (planFeasible d (keptOf d (scheduleOf sch)) plan)) (lent-is l day (notSchedule sch) (besidePlan l (length plan) false false) _ h right)

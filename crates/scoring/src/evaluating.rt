@@ -4,19 +4,19 @@ use crate::Solution;
 use crate::numbers::parts_number;
 use crate::plan::plan_holds;
 use input_data::Beside;
-use input_data::InputData;
 use input_data::Limits;
-use scheduling::Scheduling;
 use score::Score;
 ghost use mathlib.Core.Path.{_≡_};
 ghost use mathlib.Core.Bool.{not, _&&_, _||_};
 ghost use Prim.Native.Nat.{_+_, _≤_};
 ghost use lib.Dec.{eqb};
 ghost use lib.ListN.{length};
+ghost use Rattle.counting.specs.Lent.{old};
+ghost use Rattle.input_data.specs.Bytes.{IsDay, dayOf, wider};
 ghost use Rattle.input_data.specs.Lengths.{Within, fullDay};
 ghost use Rattle.scoring.specs.Evaluate.{majorOf, scoreOf, finiteOrInfinite, evaluated};
-ghost use Rattle.scoring.specs.Calls.{hasSchedule, hasPlan, noScore, score, evaluateNumber, evaluateAnswer};
-ghost use Rattle.scoring.specs.Laws.{Judged, Weighed};
+ghost use Rattle.scoring.specs.Calls.{hasSchedule, hasPlan, besideTables, noScore, score, evaluateLentNumber, evaluateLent};
+ghost use Rattle.scoring.specs.Laws.{Weighed, Evaluable, Multiplied};
 
 impl Solution {
     pub fn has_schedule(self) -> bool
@@ -61,16 +61,16 @@ fn finite_or_infinite(s: Score) -> Score
 }
 
 // The score of a feasible plan.
-fn score_of(day: InputData, greedy: bool, preferences: &[u32], powers: &[f32], plan: &[u8]) -> Score
-    requires { ⌜ Weighed day (now preferences) (length (now powers)) (now plan) ⌝ }
-    ensures { λ r. ⌜ r ≡ finiteOrInfinite (scoreOf day greedy (now (preferences .entry)) (now (powers .entry)) (now (plan .entry))) ⌝ }
+fn score_of(day: &[u8], greedy: bool, preferences: &[u32], powers: &[f32], plan: &[u8]) -> Score
+    requires { ⌜ IsDay (now day) × Weighed (dayOf (now day)) (now preferences) (length (now powers)) (now plan) ⌝ }
+    ensures { λ r. ⌜ r ≡ finiteOrInfinite (scoreOf (dayOf (old day)) greedy (old preferences) (old powers) (old plan)) ⌝ }
 {
-    let choosers = day.choosers;
-    let choices = day.choices;
-    let slots = day.slots;
+    let choosers = input_data::choosers(day);
+    let choices = input_data::choices(day);
+    let slots = input_data::slots(day);
     let most = seat_counts::greatest_preference(choosers, choices, slots, preferences, plan);
     let counts = seat_counts::count_preferences(choosers, choices, slots, preferences, plan);
-    let minor = seat_counts::minor(&counts, powers, day.max_preference as usize);
+    let minor = seat_counts::minor(&counts, powers, input_data::max_preference(day) as usize);
     finite_or_infinite(Score {
         major: major_of(greedy, most),
         minor: minor,
@@ -79,15 +79,15 @@ fn score_of(day: InputData, greedy: bool, preferences: &[u32], powers: &[f32], p
 
 // The score of a plan that was looked at: infinite twice where it is not feasible.
 fn evaluate_plan(
-    day: InputData,
+    day: &[u8],
     greedy: bool,
     preferences: &[u32],
     powers: &[f32],
     entries: &[u8; 32],
     plan: &[u8],
 ) -> Score
-    requires { ⌜ Judged day (now entries) (now plan) × Weighed day (now preferences) (length (now powers)) (now plan) ⌝ }
-    ensures { λ r. ⌜ r ≡ evaluated day greedy (now (preferences .entry)) (now (powers .entry)) (now (entries .entry)) (now (plan .entry)) ⌝ }
+    requires { ⌜ Evaluable (now day) (now preferences) (length (now powers)) (now entries) (now plan) ⌝ }
+    ensures { λ r. ⌜ r ≡ evaluated (dayOf (old day)) greedy (old preferences) (old powers) (old entries) (old plan) ⌝ }
 {
     if plan_holds(day, entries, plan) {
         return score_of(day, greedy, preferences, powers, plan);
@@ -110,46 +110,72 @@ fn wrong_tables(
     (preferences != cells) | (powers != most as usize + 1) | (there & (plan != size))
 }
 
-// Sizes are tested before any product of them is formed.
+// What evaluate tests beside the day, whose sizes are tested before any product of them is formed.
+fn beside_tables(
+    limits: Limits,
+    day: &[u8],
+    there: bool,
+    wrong: bool,
+    preferences: &[u32],
+    powers: usize,
+    plan: usize,
+) -> Beside
+    requires { ⌜ Multiplied limits (now day) ⌝ }
+    ensures { λ r. ⌜ r ≡ wider wrong (besideTables limits (dayOf (old day)) there (old preferences) powers plan) ⌝ }
+{
+    let most = input_data::max_preference(day);
+    let cells = input_data::choosers(day) * input_data::choices(day);
+    let size = limits.choosers * limits.slots;
+    let tables = wrong_tables(cells, most, there, size, preferences.len(), powers, plan);
+    Beside {
+        lengths: wrong | tables,
+        preferences: input_data::bad_preferences(most, preferences),
+        levels: false,
+        costs: false,
+        asked: false,
+    }
+}
+
+// 2 of a schedule that is there.
+fn wrong_schedule(there: bool, size: usize) -> bool
+    ensures { λ r. ⌜ r ≡ (there && not (eqb size 32)) ⌝ }
+{
+    there & (size != 32)
+}
+
 fn evaluate_number(
     limits: Limits,
-    day: InputData,
+    day: &[u8],
     solution: Solution,
-    schedule: Scheduling,
+    schedule: &[u8],
     plan: &[u8],
     preferences: &[u32],
     powers: usize,
 ) -> u32
     requires { ⌜ Within limits ⌝ }
-    ensures { λ r. ⌜ r ≡ evaluateNumber limits day solution schedule (now (plan .entry)) (now (preferences .entry)) powers ⌝ }
+    ensures { λ r. ⌜ r ≡ evaluateLentNumber limits (old day) solution (old schedule) (old plan) (old preferences) powers ⌝ }
 {
-    if input_data::too_many(limits, day.choosers, day.choices, day.slots) {
+    if day.len() != 2044 {
+        return 2;
+    }
+    let choosers = input_data::choosers(day);
+    if input_data::too_many(
+        limits,
+        choosers,
+        input_data::choices(day),
+        input_data::slots(day),
+    ) {
         return 1;
     }
-    let most = day.max_preference;
-    let cells = day.choosers * day.choices;
-    let size = limits.choosers * limits.slots;
     let there = solution.has_plan();
-    let beside = Beside {
-        lengths: wrong_tables(
-            cells,
-            most,
-            there,
-            size,
-            preferences.len(),
-            powers,
-            plan.len(),
-        ),
-        preferences: input_data::bad_preferences(most, preferences),
-        levels: false,
-        costs: false,
-        asked: false,
-    };
+    let scheduled = solution.has_schedule();
+    let wrong = wrong_schedule(scheduled, schedule.len());
+    let beside = beside_tables(limits, day, there, wrong, preferences, powers, plan.len());
     let number = input_data::day_number(limits, day, beside, 0);
     if number != 0 {
         return number;
     }
-    parts_number(solution.has_schedule(), there, day, schedule, plan)
+    parts_number(scheduled, there, day, schedule, plan)
 }
 
 fn answer(number: u32, s: Score) -> ScoreAnswer
@@ -172,31 +198,24 @@ fn no_score() -> Score
 
 fn evaluate_within(
     limits: Limits,
-    day: InputData,
+    day: &[u8],
     solution: Solution,
-    schedule: Scheduling,
+    schedule: &[u8],
     plan: &[u8],
     greedy: bool,
     preferences: &[u32],
     powers: &[f32],
 ) -> ScoreAnswer
     requires { ⌜ Within limits ⌝ }
-    ensures { λ r. ⌜ r ≡ evaluateAnswer limits day solution schedule (now (plan .entry)) greedy (now (preferences .entry)) (now (powers .entry)) ⌝ }
+    ensures { λ r. ⌜ r ≡ evaluateLent limits (old day) solution (old schedule) (old plan) greedy (old preferences) (old powers) ⌝ }
 {
-    let number = evaluate_number(
-        limits,
-        day,
-        solution,
-        schedule,
-        plan,
-        preferences,
-        powers.len(),
-    );
+    let size = powers.len();
+    let number = evaluate_number(limits, day, solution, schedule, plan, preferences, size);
     if number != 0 {
         return answer(number, no_score());
     }
     if solution.has_plan() {
-        let entries = scheduling::kept(day.choices, &schedule.entries);
+        let entries = scheduling::kept(input_data::choices(day), schedule);
         return answer(
             0,
             evaluate_plan(day, greedy, preferences, powers, &entries, plan),
@@ -207,17 +226,17 @@ fn evaluate_within(
 
 // The score of a solution. What has no plan scores infinite twice.
 pub fn evaluate(
-    day: InputData,
+    day: &[u8],
     solution: Solution,
-    schedule: Scheduling,
+    schedule: &[u8],
     plan: &[u8],
     greedy: bool,
     preferences: &[u32],
     powers: &[f32],
 ) -> ScoreAnswer
-    ensures { λ r. ⌜ r ≡ evaluateAnswer fullDay day solution schedule (now (plan .entry)) greedy (now (preferences .entry)) (now (powers .entry)) ⌝ }
+    ensures { λ r. ⌜ r ≡ evaluateLent fullDay (old day) solution (old schedule) (old plan) greedy (old preferences) (old powers) ⌝ }
 {
-    let limits = schedule_state::full_day();
+    let limits = input_data::full_day();
     evaluate_within(
         limits,
         day,

@@ -1,18 +1,15 @@
 // The numbers of the verdict's calls, and their answers.
 use crate::VerdictAnswer;
 use input_data::Beside;
-use input_data::InputData;
 use input_data::Limits;
-use scheduling::Scheduling;
 ghost use mathlib.Core.Path.{_≡_};
-ghost use mathlib.Core.Bool.{true, _&&_};
-ghost use Prim.Native.Nat.{_≤_};
 ghost use lib.ListN.{length};
-ghost use Rattle.assignment.specs.Calls.{seats};
-ghost use Rattle.assignment.specs.Plan.{badPlanFor};
+ghost use Rattle.counting.specs.Lent.{old};
+ghost use Rattle.input_data.specs.Bytes.{dayOf};
 ghost use Rattle.input_data.specs.Lengths.{Within};
-ghost use Rattle.assignment.specs.Laws.{Small};
-ghost use Rattle.scoring.specs.Calls.{verdict, scheduleNumber, partsNumber, verdictNumber};
+ghost use Rattle.scheduling.specs.Handed.{scheduleOf};
+ghost use Rattle.scoring.specs.Calls.{verdict, partsNumber, scheduleLentNumber, verdictLentNumber};
+ghost use Rattle.scoring.specs.Laws.{Parted};
 
 pub fn answer(number: u32, holds: bool) -> VerdictAnswer
     ensures { λ r. ⌜ r ≡ verdict number holds ⌝ }
@@ -23,11 +20,14 @@ pub fn answer(number: u32, holds: bool) -> VerdictAnswer
     }
 }
 
-pub fn schedule_number(limits: Limits, day: InputData, schedule: Scheduling) -> u32
-    ensures { λ r. ⌜ r ≡ scheduleNumber limits day schedule ⌝ }
+pub fn schedule_number(limits: Limits, day: &[u8], schedule: &[u8]) -> u32
+    ensures { λ r. ⌜ r ≡ scheduleLentNumber limits (old day) (old schedule) ⌝ }
 {
+    if day.len() != 2044 {
+        return 2;
+    }
     let beside = Beside {
-        lengths: false,
+        lengths: schedule.len() != 32,
         preferences: false,
         levels: false,
         costs: false,
@@ -37,45 +37,33 @@ pub fn schedule_number(limits: Limits, day: InputData, schedule: Scheduling) -> 
     if number != 0 {
         return number;
     }
-    let outside = scheduling::bad_slots(day.choices, day.slots, &schedule.entries);
+    let outside = scheduling::bad_slots(input_data::choices(day), input_data::slots(day), schedule);
     input_data::first(outside, 11, 0)
 }
 
-// 13 of a plan, if there is one.
-fn bad_seats(there: bool, choices: usize, seats: usize, entries: &[u8; 32], plan: &[u8]) -> bool
-    requires { ⌜ (choices ≤ 32) × (there ≡ true → seats ≤ length (now plan)) ⌝ }
-    ensures { λ r. ⌜ r ≡ (there && badPlanFor choices seats (now (entries .entry)) (now (plan .entry))) ⌝ }
-{
-    if there {
-        return assignment::bad_plan_for(choices, seats, entries, plan);
-    }
-    false
-}
-
 // 11 and 13 of the parts that are there.
-pub fn parts_number(
-    scheduled: bool,
-    seated: bool,
-    day: InputData,
-    schedule: Scheduling,
-    plan: &[u8],
-) -> u32
-    requires { ⌜ Small day × (seated ≡ true → seats day ≤ length (now plan)) ⌝ }
-    ensures { λ r. ⌜ r ≡ partsNumber scheduled seated day schedule (now (plan .entry)) ⌝ }
+pub fn parts_number(scheduled: bool, seated: bool, day: &[u8], schedule: &[u8], plan: &[u8]) -> u32
+    requires { ⌜ Parted scheduled seated (now day) (now schedule) (length (now plan)) ⌝ }
+    ensures { λ r. ⌜ r ≡ partsNumber scheduled seated (dayOf (old day)) (scheduleOf (old schedule)) (old plan) ⌝ }
 {
-    let outside = scheduling::bad_slots(day.choices, day.slots, &schedule.entries);
-    let seats = day.choosers * day.slots;
-    let bad = bad_seats(seated, day.choices, seats, &schedule.entries, plan);
+    let choices = input_data::choices(day);
+    let slots = input_data::slots(day);
+    let outside = scheduling::bad_slots_if(scheduled, choices, slots, schedule);
+    let seats = input_data::choosers(day) * slots;
+    let bad = assignment::bad_if(seated, choices, seats, schedule, plan);
     let from13 = input_data::first(bad, 13, 0);
-    input_data::first(scheduled & outside, 11, from13)
+    input_data::first(outside, 11, from13)
 }
 
-pub fn verdict_number(limits: Limits, day: InputData, schedule: Scheduling, plan: &[u8]) -> u32
+pub fn verdict_number(limits: Limits, day: &[u8], schedule: &[u8], plan: &[u8]) -> u32
     requires { ⌜ Within limits ⌝ }
-    ensures { λ r. ⌜ r ≡ verdictNumber limits day schedule (now (plan .entry)) ⌝ }
+    ensures { λ r. ⌜ r ≡ verdictLentNumber limits (old day) (old schedule) (old plan) ⌝ }
 {
+    if day.len() != 2044 {
+        return 2;
+    }
     let beside = Beside {
-        lengths: plan.len() != limits.choosers * limits.slots,
+        lengths: (schedule.len() != 32) | (plan.len() != limits.choosers * limits.slots),
         preferences: false,
         levels: false,
         costs: false,

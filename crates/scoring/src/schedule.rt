@@ -2,27 +2,29 @@
 use crate::VerdictAnswer;
 use crate::numbers::answer;
 use crate::numbers::schedule_number;
-use input_data::InputData;
 use input_data::Limits;
-use scheduling::Scheduling;
 ghost use mathlib.Core.Path.{_≡_};
 ghost use mathlib.Core.Bool.{_&&_};
 ghost use Prim.Native.Nat.{_≤_};
 ghost use lib.Dec.{leb};
+ghost use Rattle.counting.specs.Fold.{allTo};
+ghost use Rattle.counting.specs.Lent.{old, new};
+ghost use Rattle.input_data.specs.Bytes.{IsDay, dayOf};
 ghost use Rattle.input_data.specs.Lengths.{Within, fullDay};
-ghost use Rattle.scoring.specs.Feasible.{scheduleFeasible};
-ghost use Rattle.scoring.specs.Calls.{schedulingAnswer, scheduleAnswer};
-ghost use Rattle.scoring.specs.Laws.{placedIn, seatsIn, Schedulable};
+ghost use Rattle.scoring.specs.Feasible.{isPlaced, scheduleFeasible};
+ghost use Rattle.scoring.specs.Calls.{schedulingLent, scheduleLent};
+ghost use Rattle.scoring.specs.Laws.{seatsIn, Schedulable, Weighable, SizeSums};
+ghost use Rattle.slot_lists.specs.Sums.{Unweighed};
 
 // Whether every choice without the optional mark has a slot.
-fn all_placed<'a>(choices: usize, entries: &'a [u8; 32], optional: &'a [bool; 32]) -> bool
-    requires { ⌜ choices ≤ 32 ⌝ }
-    ensures { λ r. ⌜ r ≡ placedIn choices (now (entries .entry)) (now (optional .entry)) ⌝ }
+fn all_placed(choices: usize, entries: &[u8; 32], day: &[u8]) -> bool
+    requires { ⌜ IsDay (now day) × (choices ≤ 32) ⌝ }
+    ensures { λ r. ⌜ r ≡ allTo choices (isPlaced (dayOf (old day)) (old entries)) ⌝ }
 {
     let mut placed = true;
     let mut k = 0;
     while k < choices {
-        placed = placed & ((entries[k] != 0) | optional[k]);
+        placed = placed & ((entries[k] != 0) | input_data::optional_at(day, k));
         k += 1;
     }
     placed
@@ -37,7 +39,7 @@ fn seats_all(choosers: usize, min: u32, max: u32) -> bool
 // Whether the choosers are from the sum of min to the sum of max in every slot.
 fn all_seated<'a>(choosers: usize, slots: usize, mins: &'a [u32; 8], maxs: &'a [u32; 8]) -> bool
     requires { ⌜ slots ≤ 8 ⌝ }
-    ensures { λ r. ⌜ r ≡ seatsIn choosers slots (now (mins .entry)) (now (maxs .entry)) ⌝ }
+    ensures { λ r. ⌜ r ≡ seatsIn choosers slots (old mins) (old maxs) ⌝ }
 {
     let mut seated = true;
     let mut s = 0;
@@ -48,54 +50,72 @@ fn all_seated<'a>(choosers: usize, slots: usize, mins: &'a [u32; 8], maxs: &'a [
     seated
 }
 
-// The test of a schedule that was looked at.
-fn schedule_holds(day: InputData, entries: &[u8; 32]) -> bool
-    requires { ⌜ Schedulable day (now entries) ⌝ }
-    ensures { λ r. ⌜ r ≡ scheduleFeasible day (now (entries .entry)) ⌝ }
+// The sums of min and of max of each slot, in one walk over the choices.
+fn add_sizes(mins: &mut [u32; 8], maxs: &mut [u32; 8], day: &[u8], entries: &[u8; 32], n: usize)
+    requires { ⌜ IsDay (now day) × Unweighed (now mins) (now maxs) × Weighable (dayOf (now day)) (now entries) n ⌝ }
+    ensures { λ _. ⌜ SizeSums (dayOf (old day)) (old entries) n (new mins) (new maxs) ⌝ }
 {
-    let choices = day.choices;
-    let mins = slot_lists::sums(entries, &day.mins, choices);
-    let maxs = slot_lists::sums(entries, &day.maxs, choices);
-    let placed = all_placed(choices, entries, &day.optional);
-    let seated = all_seated(day.choosers, day.slots, &mins, &maxs);
-    placed & seated & satisfies_constraints::scheduling_met(choices, entries, day.scheduling)
+    let mut i = 0;
+    while i < n {
+        slot_lists::add(mins, entries[i], input_data::min_at(day, i));
+        slot_lists::add(maxs, entries[i], input_data::max_at(day, i));
+        i += 1;
+    }
 }
 
-fn scheduling_within(limits: Limits, day: InputData, schedule: Scheduling) -> VerdictAnswer
+// The test of a schedule that was looked at.
+fn schedule_holds(day: &[u8], entries: &[u8; 32]) -> bool
+    requires { ⌜ IsDay (now day) × Schedulable (dayOf (now day)) (now entries) ⌝ }
+    ensures { λ r. ⌜ r ≡ scheduleFeasible (dayOf (old day)) (old entries) ⌝ }
+{
+    let choices = input_data::choices(day);
+    let mut mins = [0u32; 8];
+    let mut maxs = [0u32; 8];
+    add_sizes(&mut mins, &mut maxs, day, entries, choices);
+    let placed = all_placed(choices, entries, day);
+    let slots = input_data::slots(day);
+    let seated = all_seated(input_data::choosers(day), slots, &mins, &maxs);
+    placed & seated & satisfies_constraints::scheduling_met(choices, entries, day)
+}
+
+fn scheduling_within(limits: Limits, day: &[u8], schedule: &[u8]) -> VerdictAnswer
     requires { ⌜ Within limits ⌝ }
-    ensures { λ r. ⌜ r ≡ schedulingAnswer limits day schedule ⌝ }
+    ensures { λ r. ⌜ r ≡ schedulingLent limits (old day) (old schedule) ⌝ }
 {
     let number = schedule_number(limits, day, schedule);
     if number != 0 {
         return answer(number, false);
     }
-    let entries = scheduling::kept(day.choices, &schedule.entries);
-    let met = satisfies_constraints::scheduling_met(day.choices, &entries, day.scheduling);
-    answer(0, met)
+    let choices = input_data::choices(day);
+    let entries = scheduling::kept(choices, schedule);
+    answer(
+        0,
+        satisfies_constraints::scheduling_met(choices, &entries, day),
+    )
 }
 
 // Whether the schedule meets every scheduling constraint of the day.
-pub fn satisfies_constraints_scheduling(day: InputData, schedule: Scheduling) -> VerdictAnswer
-    ensures { λ r. ⌜ r ≡ schedulingAnswer fullDay day schedule ⌝ }
+pub fn satisfies_constraints_scheduling(day: &[u8], schedule: &[u8]) -> VerdictAnswer
+    ensures { λ r. ⌜ r ≡ schedulingLent fullDay (old day) (old schedule) ⌝ }
 {
-    scheduling_within(schedule_state::full_day(), day, schedule)
+    scheduling_within(input_data::full_day(), day, schedule)
 }
 
-fn schedule_within(limits: Limits, day: InputData, schedule: Scheduling) -> VerdictAnswer
+fn schedule_within(limits: Limits, day: &[u8], schedule: &[u8]) -> VerdictAnswer
     requires { ⌜ Within limits ⌝ }
-    ensures { λ r. ⌜ r ≡ scheduleAnswer limits day schedule ⌝ }
+    ensures { λ r. ⌜ r ≡ scheduleLent limits (old day) (old schedule) ⌝ }
 {
     let number = schedule_number(limits, day, schedule);
     if number != 0 {
         return answer(number, false);
     }
-    let entries = scheduling::kept(day.choices, &schedule.entries);
+    let entries = scheduling::kept(input_data::choices(day), schedule);
     answer(0, schedule_holds(day, &entries))
 }
 
 // Scheduling::is_feasible.
-pub fn schedule_is_feasible(day: InputData, schedule: Scheduling) -> VerdictAnswer
-    ensures { λ r. ⌜ r ≡ scheduleAnswer fullDay day schedule ⌝ }
+pub fn schedule_is_feasible(day: &[u8], schedule: &[u8]) -> VerdictAnswer
+    ensures { λ r. ⌜ r ≡ scheduleLent fullDay (old day) (old schedule) ⌝ }
 {
-    schedule_within(schedule_state::full_day(), day, schedule)
+    schedule_within(input_data::full_day(), day, schedule)
 }

@@ -1,16 +1,13 @@
--- The negation's answer in numbers, and that its operands fit 32 bits. Assumes nothing.
-use Prim.Native.Nat.{ℕ, _<_}
-use native.Mathlib.Omega.{arith}
-use lib.Dec.{eqb}
-use lib.IntN.{ℤ}
-use Rattle.counting.specs.Tests.{bool-cases}
-use Rattle.constraint.specs.declared.Constraint.{Constraint}
-use Rattle.constraint.specs.declared.ConstraintExtra.{ConstraintExtra}
-use Rattle.constraint.specs.declared.ConstraintExtra.the-variants.{None, Offset, SlotSizeLimitOp}
+-- The negation's answer in numbers, and how it follows from those that came in. Assumes nothing.
+use Prim.Native.Nat.{ℕ}
+use mathlib.Core.Path.{_≡_, sym, ap, _∙_}
+use mathlib.Core.Bool.{true, false, cond}
+use lib.IntN.{ℤ, pos}
 use Rattle.constraint.specs.declared.NegationAnswer.{NegationAnswer}
-use Rattle.constraint.specs.Kind.{kindNumber, isSizeLimit}
-use Rattle.constraint.specs.Cases.{targetCase, targetOperand, targetOf, extraCase, extraOperand}
-use Rattle.constraint.specs.Negation.{sizeLimitNegation, negationOf, constraintOf}
+use Rattle.constraint.specs.Kind.{kindNumber, kindOf}
+use Rattle.constraint.specs.Cases.{operatorOf, targetCase, targetOperand, extraCase, extraOperand}
+use Rattle.constraint.specs.Negation.{negatedKind, refused, negationOf, constraintOf}
+use Rattle.constraint.specs.Numbers.{isTarget, hasOperator, hasExtra, negatedExtra, case-is, operand-is, extra-case-is, extra-operand-is, negated-case-is, negation-refused, negation-limit, negation-else}
 use Rattle.seating.specs.declared.constraints.NegationNumbers.{NegationNumbers}
 
 -- number and values of each case
@@ -25,30 +22,29 @@ negationNumbers a = record {
   extra = extraOperand (a .constraint .extra);
 }
 
--- the operands fit 32 bits
-pub record Narrow (a : NegationAnswer) : Type 0 where
-  pub left : a .constraint .left < 4294967296
-  pub target : targetOperand (a .constraint .right) < 4294967296
+abbrev pub refusedNumbers : ℕ → NegationNumbers
+refusedNumbers n = negationNumbers (refused n)
 
-target-narrow : (t n : ℕ) → n < 4294967296 → targetOperand (targetOf t n) < 4294967296
-target-narrow t n h =
-    bool-cases (eqb t 1) (λ e. rw e h)
-    (λ e. rw e (bool-cases (eqb t 2) (λ e₂. rw e₂ h)
-    (λ e₂. rw e₂ (bool-cases (eqb t 3) (λ e₃. rw e₃ h)
-    (λ e₃. rw e₃ (bool-cases (eqb t 4) (λ e₄. rw e₄ h) (λ e₄. rw e₄ (omega arith))))))))
+-- an answer with another kind and extra; left and target are kept
+abbrev pub negatedNumbers : ℕ → ℕ → ℕ → ℕ → ℕ → ℤ → NegationNumbers
+negatedNumbers k l t n x z = record {
+  number = 0;
+  kind = k;
+  left = l;
+  «target_case» = cond (isTarget t) t 0;
+  target = cond (isTarget t) n 0;
+  «extra_case» = x;
+  extra = z;
+}
 
-module _ (c : Constraint) (hl : c .left < 4294967296) (ht : targetOperand (c .right) < 4294967296) where
-  size-limit-narrow : (x : ConstraintExtra) → Narrow (sizeLimitNegation c x)
-  size-limit-narrow None = record { left = omega arith; target = omega arith }
-  size-limit-narrow (Offset z) = record { left = omega arith; target = omega arith }
-  size-limit-narrow (SlotSizeLimitOp o) = record { left = hl; target = ht }
+-- a size limit without an operator, one with, and every other kind
+module _ (k l t n x : ℕ) (z : ℤ) where
+  pub numbers-refused : k ≡ 6 → hasOperator x z ≡ false → refusedNumbers 9 ≡ negationNumbers (negationOf (constraintOf k l t n x z))
+  numbers-refused e h = sym (ap negationNumbers (negation-refused k l t n x z e h))
 
-  negation-narrow : Narrow (negationOf c)
-  unfolding negationOf
-  negation-narrow = bool-cases (isSizeLimit (c .kind))
-      (λ e. rw e (size-limit-narrow (c .extra)))
-      (λ e. rw e (record { left = hl; target = ht }))
+  pub numbers-limit : k ≡ 6 → hasOperator x z ≡ true → negatedNumbers 6 l t n 2 (extraOperand (negatedExtra (operatorOf z))) ≡ negationNumbers (negationOf (constraintOf k l t n x z))
+  unfolding kindOf
+  numbers-limit e h = sym (ap negationNumbers (negation-limit k l t n x z e h) ∙ rw (case-is t n, operand-is t n, negated-case-is x z h))
 
--- what came in as 32 bits goes out as 32 bits
-pub narrow : (k l t n x : ℕ) (z : ℤ) → l < 4294967296 → n < 4294967296 → Narrow (negationOf (constraintOf k l t n x z))
-narrow k l t n x z hl hn = negation-narrow (constraintOf k l t n x z) hl (target-narrow t n hn)
+  pub numbers-else : (k ≡ 6 → ⊥) → negatedNumbers (kindNumber (negatedKind (kindOf k))) l t n (cond (hasExtra x z) x 0) (cond (hasExtra x z) z (pos 0)) ≡ negationNumbers (negationOf (constraintOf k l t n x z))
+  numbers-else h = sym (ap negationNumbers (negation-else k l t n x z h) ∙ rw (case-is t n, operand-is t n, extra-case-is x z, extra-operand-is x z))

@@ -49,7 +49,7 @@ use Rattle.assignment_solver.specs.declared.Known.{Known}
 use Rattle.assignment_solver.specs.declared.LimitSolveResult.the-variants.{Feasible, Infeasible}
 use Rattle.assignment_solver.specs.declared.Search.{Search}
 use Rattle.assignment_solver.specs.declared.SearchAnswer.{SearchAnswer}
-use Rattle.schedule_state.specs.Good.{full-within}
+use Rattle.input_data.specs.Numbers.{full-within}
 use Rattle.satisfies_constraints.specs.Constraints.{schedulingMet, assignmentMet}
 use Rattle.scoring.specs.Calls.{verdict, partsNumber, verdictNumber, planAnswer, evaluateNumber, evaluateAnswer}
 use Rattle.scoring.specs.Calls as Answers

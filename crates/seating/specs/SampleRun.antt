@@ -10,7 +10,7 @@ use Rattle.input_data.specs.Checks.{firstOf, dayNumber, lateNumber, memberCount
 use Rattle.input_data.specs.Lengths.{fullDay}
 use Rattle.schedule_state.specs.Agreement.{Call, Carried, after, run, Fed, AsFresh}
 use Rattle.schedule_state.specs.CarriedAgrees.{carried-agrees}
-use Rattle.schedule_state.specs.Calls.{buildNumber, updateNumber}
+use Rattle.schedule_state.specs.Calls.{buildNumber, stateNumber, updateNumber}
 use Rattle.feasible_plans.specs.DemandThree.{Demand, lastSchedule}
 use Rattle.feasible_plans.specs.DemandThreeHolds.{demand-three}
 use Rattle.feasible_plans.specs.Premises.{Premises}
@@ -26,7 +26,7 @@ abbrev wrong : Call
 wrong = record { day = record { choosers = 65; choices = 3; slots = 2; «max_preference» = 2; mins = []; maxs = []; optional = []; scheduling = noConstraints; assignment = noConstraints; groups = 0; lengths = []; members = [] }; state = built .state; schedule = atFirst; lists = [] }
 
 refused-by-1 : updateNumber fullDay (wrong .day) (wrong .state) (wrong .schedule) (wrong .lists) ≡ 1
-unfolding updateNumber dayNumber firstOf
+unfolding stateNumber dayNumber firstOf
 refused-by-1 = refl
 
 abbrev x₂ : Carried

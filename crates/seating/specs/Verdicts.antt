@@ -1,7 +1,12 @@
 -- Solutions and scores of the verdict in numbers. Definitions only.
 use Prim.Native.Nat.{ℕ}
 use mathlib.Core.Bool.{cond}
+use mathlib.Core.List.{List}
 use lib.Dec.{eqb}
+use lib.Ieee.{Float}
+use Rattle.input_data.specs.Bytes.{flagOf}
+use Rattle.input_data.specs.Lengths.{fullDay}
+use Rattle.scoring.specs.Calls.{evaluateLent}
 use Rattle.scoring.specs.declared.ScoreAnswer.{ScoreAnswer}
 use Rattle.scoring.specs.declared.Solution.{Solution}
 use Rattle.scoring.specs.declared.Solution.the-variants as Solution
@@ -15,3 +20,8 @@ solutionOf n = cond (eqb n 2) Solution.Complete (cond (eqb n 1) Solution.Schedul
 -- the number and the bits of both floats
 abbrev pub scoreAnswerBits : ScoreAnswer → ScoreBitsAnswer
 scoreAnswerBits a = record { number = a .number; score = scoreBits (a .score) }
+
+-- what evaluate gives, of lent bytes and numbers; `greedy` is yes where it is not 0
+abbrev pub evaluateBits : List ℕ → ℕ → List ℕ → List ℕ → ℕ → List ℕ → List Float → ScoreBitsAnswer
+evaluateBits day solution sch plan greedy preferences powers =
+    scoreAnswerBits (evaluateLent fullDay day (solutionOf solution) sch plan (flagOf greedy) preferences powers)

@@ -1,10 +1,12 @@
 // The entries over constraint.rs.
-use constraint::Constraint;
 use constraint::ConstraintType;
+use constraint::numbers;
 ghost use mathlib.Core.Path.{_≡_};
+ghost use mathlib.Core.Bool.{cond};
+ghost use lib.IntN.{pos};
 ghost use Rattle.constraint.specs.Kind.{kindOf, isValid, isScheduling, isAssignment};
 ghost use Rattle.constraint.specs.Negation.{negationOf, constraintOf};
-ghost use Rattle.seating.specs.Constraints.{Narrow, negationNumbers};
+ghost use Rattle.seating.specs.Constraints.{negationNumbers, refusedNumbers, negatedNumbers};
 
 #[repr(C)]
 pub struct NegationNumbers {
@@ -17,24 +19,58 @@ pub struct NegationNumbers {
     pub extra: i32,
 }
 
-// The numbers of an answer whose operands came in as 32 bits.
-fn numbers(a: constraint::NegationAnswer) -> NegationNumbers
-    requires { ⌜ Narrow a ⌝ }
-    ensures { λ r. ⌜ r ≡ negationNumbers a ⌝ }
+fn refuse(number: u32) -> NegationNumbers
+    ensures { λ r. ⌜ r ≡ refusedNumbers number ⌝ }
 {
-    let c = a.constraint;
-    let kind = c.kind;
-    let right = c.right;
-    let extra = c.extra;
-    let left = c.left;
     NegationNumbers {
-        number: a.number,
-        kind: kind.number(),
-        left: left as u32,
-        target_case: right.case(),
-        target: right.operand() as u32,
-        extra_case: extra.case(),
-        extra: extra.operand(),
+        number: number,
+        kind: 0,
+        left: 0,
+        target_case: 0,
+        target: 0,
+        extra_case: 0,
+        extra: 0,
+    }
+}
+
+fn keep(test: bool, n: u32) -> u32
+    ensures { λ r. ⌜ r ≡ cond test n 0 ⌝ }
+{
+    if test {
+        return n;
+    }
+    0
+}
+
+fn keep_signed(test: bool, n: i32) -> i32
+    ensures { λ r. ⌜ r ≡ cond test n (pos 0) ⌝ }
+{
+    if test {
+        return n;
+    }
+    0
+}
+
+// A negation: the kind and the extra are new, and left and target are kept.
+fn negated_with(
+    kind: u32,
+    left: u32,
+    target_case: u32,
+    target: u32,
+    extra_case: u32,
+    extra: i32,
+) -> NegationNumbers
+    ensures { λ r. ⌜ r ≡ negatedNumbers kind left «target_case» target «extra_case» extra ⌝ }
+{
+    let there = numbers::is_target(target_case);
+    NegationNumbers {
+        number: 0,
+        kind: kind,
+        left: left,
+        target_case: keep(there, target_case),
+        target: keep(there, target),
+        extra_case: extra_case,
+        extra: extra,
     }
 }
 
@@ -49,7 +85,22 @@ pub extern "C" fn cendravoka_negation(
 ) -> NegationNumbers
     ensures { λ r. ⌜ r ≡ negationNumbers (negationOf (constraintOf kind left «target_case» target «extra_case» extra)) ⌝ }
 {
-    numbers(Constraint::of(kind, left, target_case, target, extra_case, extra).negation())
+    if kind == 6 {
+        if numbers::has_operator(extra_case, extra) {
+            let operator = numbers::negated_operator(extra);
+            return negated_with(6, left, target_case, target, 2, operator);
+        }
+        return refuse(9);
+    }
+    let there = numbers::has_extra(extra_case, extra);
+    negated_with(
+        numbers::negated_kind(kind),
+        left,
+        target_case,
+        target,
+        keep(there, extra_case),
+        keep_signed(there, extra),
+    )
 }
 
 #[no_mangle]

@@ -1,15 +1,13 @@
 // The entries that build a model and check values against it.
-use input_data::InputData;
-use schedule_state::AssignmentScheduleState;
 use solve_with_limit::ModelAnswer;
+ghost use Rattle.counting.specs.Lent.{old, new};
 ghost use Rattle.input_data.specs.Lengths.{fullDay};
-ghost use Rattle.plans.specs.Model.{modelInput};
-ghost use Rattle.solve_with_limit.specs.Calls.{buffers, ModelLeaves, ValuesLeaves};
+ghost use Rattle.solve_with_limit.specs.Calls.{buffers, lentInput, ModelLent, ValuesLent};
 
 #[no_mangle]
 pub extern "C" fn cendravoka_model(
-    day: InputData,
-    state: AssignmentScheduleState,
+    day: &[u8],
+    state: &[u8],
     limit: u32,
     preferences: &[u32],
     costs: &[i64],
@@ -23,7 +21,9 @@ pub extern "C" fn cendravoka_model(
     ends: &mut [u16],
     blocked: &mut [u16],
 ) -> ModelAnswer
-    ensures { λ r. ⌜ ModelLeaves fullDay (modelInput day state limit (now (preferences .entry)) (now (costs .entry)) (now (lists .entry))) (buffers (now (supplies .entry)) (now (from .entry)) (now (to .entry)) (now (max .entry)) (now (cost .entry)) (now (entries .entry)) (now (ends .entry)) (now (blocked .entry))) (buffers (now (supplies .exit)) (now (from .exit)) (now (to .exit)) (now (max .exit)) (now (cost .exit)) (now (entries .exit)) (now (ends .exit)) (now (blocked .exit))) r ⌝ }
+    ensures { λ r. ⌜ ModelLent fullDay (old day) (old state) (lentInput (old day) (old state) limit (old preferences) (old costs) (old lists))
+        (buffers (old supplies) (old from) (old to) (old max) (old cost) (old entries) (old ends) (old blocked))
+        (buffers (new supplies) (new from) (new to) (new max) (new cost) (new entries) (new ends) (new blocked)) r ⌝ }
 {
     solve_with_limit::build_model(
         day,
@@ -45,8 +45,8 @@ pub extern "C" fn cendravoka_model(
 
 #[no_mangle]
 pub extern "C" fn cendravoka_check_values(
-    day: InputData,
-    state: AssignmentScheduleState,
+    day: &[u8],
+    state: &[u8],
     limit: u32,
     preferences: &[u32],
     costs: &[i64],
@@ -62,7 +62,9 @@ pub extern "C" fn cendravoka_check_values(
     blocked: &mut [u16],
     plan: &mut [u8],
 ) -> ModelAnswer
-    ensures { λ r. ⌜ ValuesLeaves fullDay (modelInput day state limit (now (preferences .entry)) (now (costs .entry)) (now (lists .entry))) (now (values .entry)) (buffers (now (supplies .entry)) (now (from .entry)) (now (to .entry)) (now (max .entry)) (now (cost .entry)) (now (entries .entry)) (now (ends .entry)) (now (blocked .entry))) (now (plan .entry)) (buffers (now (supplies .exit)) (now (from .exit)) (now (to .exit)) (now (max .exit)) (now (cost .exit)) (now (entries .exit)) (now (ends .exit)) (now (blocked .exit))) (now (plan .exit)) r ⌝ }
+    ensures { λ r. ⌜ ValuesLent fullDay (old day) (old state) (lentInput (old day) (old state) limit (old preferences) (old costs) (old lists)) (old values)
+        (buffers (old supplies) (old from) (old to) (old max) (old cost) (old entries) (old ends) (old blocked)) (old plan)
+        (buffers (new supplies) (new from) (new to) (new max) (new cost) (new entries) (new ends) (new blocked)) (new plan) r ⌝ }
 {
     solve_with_limit::check_values(
         day,

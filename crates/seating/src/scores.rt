@@ -3,10 +3,10 @@ use score::BestAnswer;
 use score::BestScore;
 use score::Score;
 ghost use mathlib.Core.Path.{_≡_};
-ghost use Prim.Native.Nat.{_*_, _≤_};
-ghost use lib.ListN.{length};
+ghost use Rattle.counting.specs.Lent.{old};
 ghost use Rattle.score.specs.Order.{infiniteTwice, finiteScore, scoreOrder, orderNumber};
-ghost use Rattle.seating.specs.Scores.{score, scoreBits, refusedBits, bestBits, bestIn, Reads, Near};
+ghost use Rattle.score.specs.Listed.{bestIn};
+ghost use Rattle.seating.specs.Scores.{score, scoreBits, refusedBits, bestBits, Near};
 
 #[repr(C)]
 pub struct ScoreBits {
@@ -74,29 +74,6 @@ pub extern "C" fn cendravoka_compare(
     left.cmp(right).number()
 }
 
-// An array that begins with the scores of a list of floats.
-fn read_scores(floats: &[f32], count: usize) -> [Score; 64]
-    requires { ⌜ (count ≤ 64) × (length (now floats) ≡ 2 * count) ⌝ }
-    ensures { λ r. ⌜ Reads (now (floats .entry)) count r ⌝ }
-{
-    let none = Score {
-        major: 0.0,
-        minor: 0.0,
-    };
-    let mut out = [none; 64];
-    let mut i = 0;
-    while i < count {
-        let at = 2 * i;
-        let s = Score {
-            major: floats[at],
-            minor: floats[at + 1],
-        };
-        out[i] = s;
-        i += 1;
-    }
-    out
-}
-
 fn best_bits(a: BestAnswer) -> BestBits
     requires { ⌜ Near a ⌝ }
     ensures { λ r. ⌜ r ≡ bestBits a ⌝ }
@@ -115,15 +92,9 @@ fn best_bits(a: BestAnswer) -> BestBits
 
 #[no_mangle]
 pub extern "C" fn cendravoka_best(scores: &[f32], count: usize) -> BestBits
-    ensures { λ r. ⌜ r ≡ bestBits (bestIn (now (scores .entry)) count) ⌝ }
+    ensures { λ r. ⌜ r ≡ bestBits (bestIn (old scores) count) ⌝ }
 {
-    if count > 64 {
-        return refuse(1);
-    }
-    if scores.len() != 2 * count {
-        return refuse(2);
-    }
-    best_bits(score::best(read_scores(scores, count), count))
+    best_bits(score::best(scores, count))
 }
 
 #[no_mangle]

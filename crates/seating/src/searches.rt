@@ -1,14 +1,12 @@
-// The entries over the preference search. Searches and what they remember cross as they are.
-use assignment_solver::CachedAssignment;
+// The entries over the preference search.
 use assignment_solver::LimitSolveResult;
-use assignment_solver::Search;
 use assignment_solver::SearchAnswer;
-use input_data::InputData;
-use scheduling::Scheduling;
 ghost use mathlib.Core.Path.{_≡_};
+ghost use Rattle.counting.specs.Lent.{old};
+ghost use Rattle.input_data.specs.Bytes.{flagOf};
 ghost use Rattle.input_data.specs.Lengths.{fullDay};
 ghost use Rattle.assignment_solver.specs.Search.{told};
-ghost use Rattle.assignment_solver.specs.Calls.{beginAnswer, tellAnswer};
+ghost use Rattle.assignment_solver.specs.Calls.{beginLent, tellLent};
 ghost use Rattle.seating.specs.Searches.{resultOf};
 
 // A number that is no result reads as incomplete.
@@ -24,29 +22,30 @@ fn result_of(number: u32) -> LimitSolveResult
     LimitSolveResult::Incomplete
 }
 
+// `greedy` is yes where it is not 0.
 #[no_mangle]
 pub extern "C" fn cendravoka_begin(
-    day: InputData,
-    schedule: Scheduling,
+    day: &[u8],
+    schedule: &[u8],
     levels: &[u32],
     bound: u32,
-    greedy: bool,
-    cached: CachedAssignment,
+    greedy: u32,
+    cached: &[u8],
 ) -> SearchAnswer
-    ensures { λ r. ⌜ r ≡ beginAnswer fullDay day schedule (now (levels .entry)) bound greedy cached ⌝ }
+    ensures { λ r. ⌜ r ≡ beginLent fullDay (old day) (old schedule) (old levels) bound (flagOf greedy) (old cached) ⌝ }
 {
-    assignment_solver::begin(day, schedule, levels, bound, greedy, cached)
+    assignment_solver::begin(day, schedule, levels, bound, greedy != 0, cached)
 }
 
 #[no_mangle]
 pub extern "C" fn cendravoka_tell(
-    day: InputData,
-    search: Search,
+    day: &[u8],
+    search: &[u8],
     levels: &[u32],
     result: u32,
     plan: &[u8],
 ) -> SearchAnswer
-    ensures { λ r. ⌜ r ≡ tellAnswer fullDay day search (now (levels .entry)) (told (resultOf result) (now (plan .entry))) ⌝ }
+    ensures { λ r. ⌜ r ≡ tellLent fullDay (old day) (old search) (old levels) (told (resultOf result) (old plan)) ⌝ }
 {
     assignment_solver::tell(day, search, levels, result_of(result), plan)
 }

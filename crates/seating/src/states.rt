@@ -1,66 +1,39 @@
-// The entries over the schedule state. Day, schedule and state cross as they are.
-use input_data::InputData;
-use schedule_state::AssignmentScheduleState;
+// The entries over the schedule state.
+use schedule_state::SlotListAnswer;
 use schedule_state::StateAnswer;
-use scheduling::Scheduling;
 ghost use mathlib.Core.Path.{_≡_};
-ghost use lib.ListN.{length};
+ghost use Rattle.counting.specs.Lent.{old, new};
 ghost use Rattle.input_data.specs.Lengths.{fullDay};
-ghost use Rattle.schedule_state.specs.Calls.{buildNumber, builtState, builtLists, updateNumber, updatedState, updatedLists, Leaves};
-ghost use Rattle.seating.specs.States.{slotListAnswer};
-
-// Where a slot's list stands in the lent buffer.
-#[repr(C)]
-pub struct SlotListAnswer {
-    pub number: u32,
-    pub start: usize,
-    pub length: usize,
-}
+ghost use Rattle.schedule_state.specs.Calls.{Built, Updated, slotListAnswer};
 
 #[no_mangle]
-pub extern "C" fn cendravoka_build(
-    day: InputData,
-    schedule: Scheduling,
-    lists: &mut [u8],
-) -> StateAnswer
-    ensures { λ r. ⌜ Leaves (buildNumber fullDay day schedule (length (now (lists .entry)))) (builtState day schedule) (builtLists fullDay day schedule (now (lists .entry))) (now (lists .entry)) (now (lists .exit)) r ⌝ }
+pub extern "C" fn cendravoka_build(day: &[u8], schedule: &[u8], lists: &mut [u8]) -> StateAnswer
+    ensures { λ r. ⌜ Built fullDay (old day) (old schedule) (old lists) (new lists) r ⌝ }
 {
     schedule_state::build(day, schedule, lists)
 }
 
 #[no_mangle]
 pub extern "C" fn cendravoka_update(
-    day: InputData,
-    state: AssignmentScheduleState,
-    schedule: Scheduling,
+    day: &[u8],
+    state: &[u8],
+    schedule: &[u8],
     lists: &mut [u8],
 ) -> StateAnswer
-    ensures { λ r. ⌜ Leaves (updateNumber fullDay day state schedule (now (lists .entry))) (updatedState day schedule) (updatedLists fullDay day state schedule (now (lists .entry))) (now (lists .entry)) (now (lists .exit)) r ⌝ }
+    ensures { λ r. ⌜ Updated fullDay (old day) (old state) (old schedule) (old lists) (new lists) r ⌝ }
 {
     schedule_state::update(day, state, schedule, lists)
 }
 
+// Where a slot's list stands in the lent buffer: a part of it cannot be returned to C.
 #[no_mangle]
 pub extern "C" fn cendravoka_slot_list(
-    day: InputData,
-    state: AssignmentScheduleState,
+    day: &[u8],
+    state: &[u8],
     lists: &[u8],
     slot: usize,
 ) -> SlotListAnswer
-    ensures { λ r. ⌜ r ≡ slotListAnswer day state slot (now (lists .entry)) ⌝ }
+    ensures { λ r. ⌜ r ≡ slotListAnswer fullDay (old day) (old state) slot (old lists) ⌝ }
 {
-    let number = schedule_state::slot_list_number(day, state, lists, slot);
-    if number != 0 {
-        return SlotListAnswer {
-            number: number,
-            start: 0,
-            length: 0,
-        };
-    }
-    let list = schedule_state::slot_list(day, state, lists, slot);
-    SlotListAnswer {
-        number: 0,
-        start: 32 * slot,
-        length: list.len(),
-    }
+    schedule_state::slot_list_answer(day, state, lists, slot)
 }

@@ -1,24 +1,23 @@
 -- That the slot lists hold exactly the choices of a schedule, once each: check 12's first part, and that the walk keeps it. Definitions and their laws.
 use Prim.Native.Nat.{ℕ, zero, suc, _+_, _-_, _*_, _<_, _≤_}
-use mathlib.Core.Path.{_≡_, refl, sym, ap, ap₂, _∙_}
-use mathlib.Core.Bool.{Bool, true, false, cond, not, _&&_, _||_, and-true, and-false, or-true, or-false}
+use mathlib.Core.Path.{_≡_, refl, sym, ap, _∙_}
+use mathlib.Core.Bool.{Bool, true, false, not, _&&_, _||_, and-true, and-false, or-true, or-false}
 use mathlib.Core.List.{List}
 use mathlib.Core.Logic.{_≢_}
-use native.Mathlib.Nat.{mul-suc, mul-le-mul-left, le-antisymm, le-refl}
+use native.Mathlib.Nat.{mul-suc, mul-le-mul-left, le-refl}
 use native.Mathlib.Numerals.{add-one}
 use native.Mathlib.Omega.{arith}
 use lib.Dec.{eqb, ltb}
-use lib.ListN.{length, getD, set, length-set}
+use lib.ListN.{length, set}
 use lib.Seq.{getD-set-same, getD-set-other}
-use borrow.Author.Tests.{eq-eqb, ne-eqb, eqb-true, eqb-false, lt-ltb, le-ltb, ltb-true, not-false}
-use Rattle.counting.specs.Fold.{gate, anyTo, countTo, sumTo, fold-ext}
-use Rattle.counting.specs.Holds.{times, isOf, Holds, holds-ext, holds-push, holds-remove, holds-has, holds-all, holds-none}
-use Rattle.counting.specs.Search.{firstTo, first-most, first-passes, first-found}
+use borrow.Author.Tests.{eq-eqb, ne-eqb, eqb-true, lt-ltb, le-ltb, not-false}
+use Rattle.counting.specs.Fold.{gate, anyTo, countTo, fold-ext}
+use Rattle.counting.specs.Holds.{times, isOf, Holds, holds-ext, holds-push, holds-remove, holds-in, holds-has, holds-all, holds-none}
+use Rattle.counting.specs.Search.{firstTo, first-passes, first-found}
 use Rattle.counting.specs.Sums.{sum-at-le, count-le, count-lt}
-use Rattle.counting.specs.Tests.{bool-cases, eq-cases, lt-cases, never, none-each, each-none, one-passes, some-passes, Passes}
-use Rattle.scheduling.specs.Schedule.{ofEntry, entryAt}
+use Rattle.counting.specs.Tests.{bool-cases, eq-cases, lt-cases, never, none-each, each-none, one-passes}
 use Rattle.slot_lists.specs.Lists.{listed, isListed, placeOf, leftBy}
-use Rattle.slot_lists.specs.Sums.{Sums, sums-most, inSlot, weighed, one, nowhere, put, put-here, weighed-put, weighed-ext, weighed-nowhere}
+use Rattle.slot_lists.specs.Sums.{inSlot, weighed, one, nowhere, put, put-here, weighed-put, weighed-ext, weighed-nowhere}
 use Rattle.slot_lists.specs.Walk.{midway, midway-here, midway-more, midway-same, midway-first, midway-last, lengthAt, leaves, joins, visit, carried, carried-none, carried-more, carried-length, leaves-length, joins-ext, joined-same}
 
 -- choice k is one of n choices, and the schedule puts it into slot s
@@ -43,38 +42,15 @@ wrongIn stride f n l s = anyTo n (wrongAt stride f n l s)
 unfoldable pub misheld : ℕ → (ℕ → ℕ) → ℕ → ℕ → List ℕ → Bool
 misheld stride f n slots l = anyTo slots (wrongIn stride f n l)
 
--- the same with less looking: some choice is not found in its slot's list
-abbrev pub missing : ℕ → (ℕ → ℕ) → List ℕ → ℕ → ℕ → Bool
-missing stride len l k e = ofEntry e false (λ s. eqb (placeOf stride s (len s) k l) (len s))
-
-abbrev pub lackingAt : ℕ → (ℕ → ℕ) → ℕ → List ℕ → ℕ → Bool
-lackingAt stride f n l k = missing stride (weighed one f n) l k (f k)
-
-unfoldable pub isLacking : ℕ → (ℕ → ℕ) → ℕ → List ℕ → Bool
-isLacking stride f n l = anyTo n (lackingAt stride f n l)
-
--- what looking asks: the list of the slot that an entry names is in the buffer
-pub record Looks (stride e size : ℕ) (a : List ℕ) : Type 0 where
-  pub small : e ≤ 8
-  pub part : e ≢ 0 → stride * (e - 1) + stride ≤ size
-  pub len : e ≢ 0 → getD a (e - 1) 0 ≤ stride
-
-pub record LooksAll (stride n : ℕ) (entries : List ℕ) (size : ℕ) (a : List ℕ) : Type 0 where
-  pub count : n ≤ 32
-  pub room : n ≤ stride
-  pub small : (k : ℕ) → k < n → entryAt entries k ≤ 8
-  pub part : (k : ℕ) → k < n → entryAt entries k ≢ 0 → stride * (entryAt entries k - 1) + stride ≤ size
-  pub lens : Sums one (entryAt entries) n a
-
 -- ---- laws
 
-member-is : (f : ℕ → ℕ) (n s k : ℕ) → k < n → member f n s k ≡ inSlot f s k
+pub member-is : (f : ℕ → ℕ) (n s k : ℕ) → k < n → member f n s k ≡ inSlot f s k
 member-is f n s k l = rw (lt-ltb k n l)
 
-member-out : (f : ℕ → ℕ) (n s k : ℕ) → n ≤ k → member f n s k ≡ false
+pub member-out : (f : ℕ → ℕ) (n s k : ℕ) → n ≤ k → member f n s k ≡ false
 member-out f n s k l = rw (le-ltb k n l)
 
-member-count : (f : ℕ → ℕ) (n s : ℕ) → countTo n (member f n s) ≡ weighed one f n s
+pub member-count : (f : ℕ → ℕ) (n s : ℕ) → countTo n (member f n s) ≡ weighed one f n s
 member-count f n s = fold-ext _+_ 0 n (λ k. gate (member f n s k) 1) (λ k. gate (inSlot f s k) 1) (λ k l. ap (λ (b : Bool). gate b 1) (member-is f n s k l))
 
 module _ (stride : ℕ) (f : ℕ → ℕ) (n slots : ℕ) (l : List ℕ) where
@@ -97,41 +73,14 @@ module _ (stride : ℕ) (f : ℕ → ℕ) (n slots : ℕ) (l : List ℕ) where
   not-misheld h = each-none slots (wrongIn stride f n l) (λ s b. each-none n (wrongAt stride f n l s) (λ k c.
       ap not (eq-eqb (occurs stride f n l s k) (gate (inSlot f s k) 1) (h .at s b .once k ∙ ap (λ (t : Bool). gate t 1) (member-is f n s k c)))))
 
-times-found : (m : ℕ) (x : ℕ → ℕ) (k : ℕ) → firstTo m (isOf x k) < m → 1 ≤ times m x k
+pub times-found : (m : ℕ) (x : ℕ → ℕ) (k : ℕ) → firstTo m (isOf x k) < m → 1 ≤ times m x k
 times-found m x k h = omega (arith, sum-at-le m (λ j. gate (isOf x k j) 1) (firstTo m (isOf x k)) h, ap (λ (t : Bool). gate t 1) (first-passes m (isOf x k) h))
 
-module _ (stride : ℕ) (f : ℕ → ℕ) (n slots : ℕ) (l : List ℕ) (fit : (k : ℕ) → k < n → f k ≤ slots) where
-  -- a choice that is not lacking is found in its slot's list
-  found : (k : ℕ) (e : ℕ) → f k ≡ e → lackingAt stride f n l k ≡ false → (s : ℕ) → e ≡ suc s → placeOf stride s (weighed one f n s) k l < weighed one f n s
-  found k zero q h s p = absurd (omega arith)
-  found k (suc t) q h s p =
-      let g : eqb (placeOf stride t (weighed one f n t) k l) (weighed one f n t) ≡ false = rw q at h in
-      let e : t ≡ s = omega arith in
-      rw (← e) (lt-cases (placeOf stride t (weighed one f n t) k l) (weighed one f n t) (λ b z. b)
-      (λ b z. absurd (eqb-false _ _ g (le-antisymm (first-most (weighed one f n t) (isListed stride l t k)) b))))
-
-  lacking-held : isLacking stride f n l ≡ false → Held stride f n slots l
-  unfolding isLacking
-  lacking-held e = record {
-    at = λ s b. holds-all (weighed one f n s) n (listed stride l s) (member f n s) (member-count f n s)
-        (λ k c q. times-found (weighed one f n s) (listed stride l s) k
-        (found k (f k) refl (none-each n (lackingAt stride f n l) e k c) s (eqb-true (f k) (suc s) (sym (member-is f n s k c) ∙ q))))
-        (λ k c. member-out f n s k c);
-  }
-
-  not-lacking : Held stride f n slots l → (k : ℕ) → k < n → (e : ℕ) → f k ≡ e → missing stride (weighed one f n) l k e ≡ false
-  not-lacking h k c zero q = refl
-  not-lacking h k c (suc s) q =
-      let r = holds-has (h .at s (omega (arith, fit k c))) k (member-is f n s k c ∙ eq-eqb (f k) (suc s) q) in
-      ne-eqb (placeOf stride s (weighed one f n s) k l) (weighed one f n s)
-      (λ z. omega (arith, first-found (weighed one f n s) (isListed stride l s k) (r .0) (r .1) (eq-eqb (listed stride l s (r .0)) k (r .2))))
-
-  -- less looking, the same answer
-  pub lacking-is : isLacking stride f n l ≡ misheld stride f n slots l
-  unfolding isLacking
-  lacking-is = bool-cases (misheld stride f n slots l)
-      (λ e. rw e (bool-cases (anyTo n (lackingAt stride f n l)) (λ t. t) (λ t. never (sym e ∙ not-misheld stride f n slots l (lacking-held t)))))
-      (λ e. rw e (each-none n (lackingAt stride f n l) (λ k c. not-lacking (held stride f n slots l e) k c (f k) refl)))
+-- a set of choices is the members that its list holds
+pub holds-any : {n : ℕ} {x : ℕ → ℕ} {mem : ℕ → Bool} → Holds n x mem → (k : ℕ) → anyTo n (isOf x k) ≡ mem k
+holds-any {n = n} {x = x} {mem = mem} h k = bool-cases (mem k)
+    (λ e. let r = holds-has h k e in one-passes n (isOf x k) (r .0) (r .1) (eq-eqb (x (r .0)) k (r .2)) ∙ sym e)
+    (λ e. each-none n (isOf x k) (λ j l. bool-cases (isOf x k j) (λ t. never (sym (holds-in h j l) ∙ ap mem (eqb-true (x j) k t) ∙ e)) (λ t. t)) ∙ sym e)
 
 -- ---- the walk keeps it
 
@@ -292,16 +241,3 @@ module _ {stride n slots : ℕ} (room : n ≤ stride) (old new : ℕ → ℕ) (f
   -- the walk of all choices carries the lists of the old schedule to those of the new one
   pub held-after : (l : List ℕ) → ((s : ℕ) → s < slots → stride * s + stride ≤ length l) → Held stride old n slots l → Held stride new n slots (carried stride old new n l n)
   held-after l size h = held-ext (midway-last old new n) (held-carried l size h n (le-refl n))
-
--- ---- what the code looks up is the definition
-
-missing-ext : (stride e : ℕ) (len len′ : ℕ → ℕ) (l : List ℕ) (k : ℕ) → ((s : ℕ) → e ≡ suc s → len s ≡ len′ s) → missing stride len l k e ≡ missing stride len′ l k e
-missing-ext stride zero len len′ l k h = refl
-missing-ext stride (suc s) len len′ l k h = ap (λ m. eqb (placeOf stride s m k l) m) (h s refl)
-
-module _ {stride n size : ℕ} {entries a : List ℕ} (h : LooksAll stride n entries size a) (k : ℕ) (c : k < n) where
-  pub looks : Looks stride (entryAt entries k) size a
-  looks = record { small = h .small k c; part = h .part k c; len = λ d. omega (arith, h .room, sums-most (h .lens) 1 (λ j b. omega arith) (entryAt entries k) (h .small k c) d) }
-
-  pub missing-is : (l : List ℕ) → missing stride (entryAt a) l k (entryAt entries k) ≡ lackingAt stride (entryAt entries) n l k
-  missing-is l = missing-ext stride (entryAt entries k) (entryAt a) (weighed one (entryAt entries) n) l k (λ s e. h .lens .at s (omega (arith, h .small k c)))

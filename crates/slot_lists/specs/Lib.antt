@@ -3,3 +3,4 @@ pub mod Lists
 pub mod Sums
 pub mod Walk
 pub mod Held
+pub mod Marks

@@ -1,12 +1,12 @@
 -- Sums per slot: of 1 they are the lengths of the lists, of the mins they are document 01's covered counts. Definitions and their laws.
 use Prim.Native.Nat.{ℕ, zero, suc, _+_, _-_, _*_, _<_, _≤_}
 use mathlib.Core.Path.{_≡_, refl, sym, ap, _∙_}
-use mathlib.Core.Bool.{Bool, true, false, cond}
+use mathlib.Core.Bool.{Bool, cond}
 use mathlib.Core.List.{List}
 use mathlib.Core.Logic.{_≢_}
 use native.Mathlib.Omega.{arith}
-use lib.Dec.{eqb, ltb}
-use lib.ListN.{length, getD, set, length-set}
+use lib.Dec.{eqb}
+use lib.ListN.{length, getD, set, replicate, length-set, getD-replicate}
 use lib.Seq.{ext-getD, getD-set-same, getD-set-other}
 use borrow.Author.Tests.{eq-eqb, ne-eqb}
 use Rattle.counting.specs.Fold.{gate, sumTo, tableTo, fold-ext, fold-none, fold-more}
@@ -56,6 +56,16 @@ pub record Weighs (entries weights : List ℕ) (n : ℕ) : Type 0 where
 pub record Sums (w f : ℕ → ℕ) (n : ℕ) (a : List ℕ) : Type 0 where
   pub long : length a ≡ 8
   pub at : (s : ℕ) → s < 8 → getD a s 0 ≡ weighed w f n s
+
+-- both sums of a schedule: the lengths a of its lists, and its covered counts c
+pub record SlotSums (mins entries : List ℕ) (n : ℕ) (a c : List ℕ) : Type 0 where
+  pub lens : Sums one (entryAt entries) n a
+  pub covered : Sums (entryAt mins) (entryAt entries) n c
+
+-- nothing is summed yet
+pub record Unweighed (a c : List ℕ) : Type 0 where
+  pub lens : a ≡ replicate 8 0
+  pub covered : c ≡ replicate 8 0
 
 -- ---- laws
 
@@ -164,3 +174,30 @@ sums-none w f a e h = record { long = e; at = λ s l. h s l ∙ sym (fold-none _
 -- a sum of the slot that an entry names is within bounds
 pub sums-most : {w f : ℕ → ℕ} {n : ℕ} {a : List ℕ} → Sums w f n a → (b : ℕ) → ((k : ℕ) → k < n → w k ≤ b) → (e : ℕ) → e ≤ 8 → e ≢ 0 → getD a (e - 1) 0 ≤ n * b
 sums-most {w = w} {f = f} {n = n} p b h e l d = omega (arith, p .at (e - 1) (omega arith), weighed-most w f n (e - 1) b h)
+
+-- zeros are the sums of no choice, and of the schedule in which no choice has a slot
+zeros-at : (a : List ℕ) → a ≡ replicate 8 0 → (s : ℕ) → s < 8 → getD a s 0 ≡ 0
+zeros-at a e s l = rw e (getD-replicate {A = ℕ} 8 s 0 0 l)
+
+pub unweighed-none : {a c : List ℕ} (mins entries : List ℕ) → Unweighed a c → SlotSums mins entries 0 a c
+unweighed-none {a = a} {c = c} mins entries p = record {
+  lens = sums-none one (entryAt entries) a (ap length (p .lens)) (zeros-at a (p .lens));
+  covered = sums-none (entryAt mins) (entryAt entries) c (ap length (p .covered)) (zeros-at c (p .covered));
+}
+
+pub unweighed-nowhere : {a c : List ℕ} (mins entries : List ℕ) (n : ℕ) → entryAt entries ≡ nowhere → Unweighed a c → SlotSums mins entries n a c
+unweighed-nowhere {a = a} {c = c} mins entries n e p = record {
+  lens = rw e (sums-nowhere one n a (ap length (p .lens)) (zeros-at a (p .lens)));
+  covered = rw e (sums-nowhere (entryAt mins) n c (ap length (p .covered)) (zeros-at c (p .covered)));
+}
+
+-- both sums, a choice more
+module _ {mins entries : List ℕ} {n i : ℕ} {a c : List ℕ} (h : Weighs entries mins n) (l : i < n) (p : SlotSums mins entries i a c) where
+  pub adds-length : Adds (entryAt entries i) 1 a
+  adds-length = record { small = h .small i l; fits = λ d. omega (arith, h .count, sums-most (p .lens) 1 (λ j b. omega arith) (entryAt entries i) (h .small i l) d) }
+
+  pub adds-covered : Adds (entryAt entries i) (entryAt mins i) c
+  adds-covered = record { small = h .small i l; fits = λ d. omega (arith, h .count, h .light i l, sums-most (p .covered) 1000 (λ j b. h .light j (omega arith)) (entryAt entries i) (h .small i l) d) }
+
+  pub slot-sums-next : SlotSums mins entries (i + 1) (added (entryAt entries i) 1 a) (added (entryAt entries i) (entryAt mins i) c)
+  slot-sums-next = record { lens = sums-next (p .lens) (h .small i l); covered = sums-next (p .covered) (h .small i l) }

@@ -2,19 +2,22 @@
 // lists, lengths and covered counts from one schedule to the next. A fresh build is the walk from
 // the schedule in which no choice has a slot.
 ghost use mathlib.Core.Path.{_≡_};
-ghost use Prim.Native.Nat.{ℕ, _+_, _-_, _*_, _<_, _≤_};
-ghost use lib.ListN.{length, getD, set};
+ghost use Prim.Native.Nat.{_+_, _-_, _*_, _<_, _≤_};
+ghost use lib.ListN.{length, set};
+ghost use Rattle.counting.specs.Fold.{anyTo};
+ghost use Rattle.counting.specs.Lent.{old, new};
 ghost use Rattle.scheduling.specs.Schedule.{entryAt};
 ghost use Rattle.counting.specs.Search.{firstTo};
 ghost use Rattle.slot_lists.specs.Lists.{isEntry, removed, leftBy};
-ghost use Rattle.slot_lists.specs.Sums.{added, Sums, Adds, Weighs};
-ghost use Rattle.slot_lists.specs.Held.{missing, isLacking, Looks, LooksAll};
+ghost use Rattle.slot_lists.specs.Sums.{added, Sums, Adds, Weighs, Unweighed, SlotSums};
+ghost use Rattle.slot_lists.specs.Held.{misheld};
+ghost use Rattle.slot_lists.specs.Marks.{Looks, Noted, unmarkedAt};
 ghost use Rattle.slot_lists.specs.Walk.{Departs, Departed, Arrives, Arrived, Visits, Visited, Carries, Carried};
 
 // A choice joins a list of `len` entries at its end.
 fn append(part: &mut [u8], len: usize, choice: u8)
     requires { ⌜ len < length (now part) ⌝ }
-    ensures { λ _. ⌜ now (part .exit) ≡ set (now (part .entry)) len choice ⌝ }
+    ensures { λ _. ⌜ new part ≡ set (old part) len choice ⌝ }
 {
     part[len] = choice;
 }
@@ -22,7 +25,7 @@ fn append(part: &mut [u8], len: usize, choice: u8)
 // The place of a choice among the first `len` entries, or `len` where it is not there.
 pub fn place(part: &[u8], len: usize, choice: u8) -> usize
     requires { ⌜ len ≤ length (now part) ⌝ }
-    ensures { λ r. ⌜ r ≡ firstTo len (isEntry (now (part .entry)) choice) ⌝ }
+    ensures { λ r. ⌜ r ≡ firstTo len (isEntry (old part) choice) ⌝ }
 {
     let mut i = 0;
     while i < len {
@@ -37,7 +40,7 @@ pub fn place(part: &[u8], len: usize, choice: u8) -> usize
 // A choice leaves a list of `len` entries. The last one moves into its place, and nothing else is written.
 fn remove(part: &mut [u8], len: usize, choice: u8)
     requires { ⌜ len ≤ length (now part) ⌝ }
-    ensures { λ _. ⌜ now (part .exit) ≡ removed len choice (now (part .entry)) ⌝ }
+    ensures { λ _. ⌜ new part ≡ removed len choice (old part) ⌝ }
 {
     let at = place(part, len, choice);
     if at < len {
@@ -49,7 +52,7 @@ fn remove(part: &mut [u8], len: usize, choice: u8)
 // The slot's part is lent on to `append`.
 fn enter(lists: &mut [u8], stride: usize, slot: usize, len: usize, choice: u8)
     requires { ⌜ (len < stride) × (stride * slot + stride ≤ length (now lists)) ⌝ }
-    ensures { λ _. ⌜ now (lists .exit) ≡ set (now (lists .entry)) (stride * slot + len) choice ⌝ }
+    ensures { λ _. ⌜ new lists ≡ set (old lists) (stride * slot + len) choice ⌝ }
 {
     let a = stride * slot;
     let e = a + stride;
@@ -59,7 +62,7 @@ fn enter(lists: &mut [u8], stride: usize, slot: usize, len: usize, choice: u8)
 // The slot's part is lent on to `remove`.
 fn leave(lists: &mut [u8], stride: usize, slot: usize, len: usize, choice: u8)
     requires { ⌜ (len ≤ stride) × (stride * slot + stride ≤ length (now lists)) ⌝ }
-    ensures { λ _. ⌜ now (lists .exit) ≡ leftBy stride slot len choice (now (lists .entry)) ⌝ }
+    ensures { λ _. ⌜ new lists ≡ leftBy stride slot len choice (old lists) ⌝ }
 {
     let a = stride * slot;
     let e = a + stride;
@@ -77,7 +80,7 @@ fn depart(
     min: u32,
 )
     requires { ⌜ Departs stride entry min (length (now lists)) (now lens) (now covered) ⌝ }
-    ensures { λ _. ⌜ Departed stride entry choice min (now (lists .entry)) (now (lens .entry)) (now (covered .entry)) (now (lists .exit)) (now (lens .exit)) (now (covered .exit)) ⌝ }
+    ensures { λ _. ⌜ Departed stride entry choice min (old lists) (old lens) (old covered) (new lists) (new lens) (new covered) ⌝ }
 {
     if entry == 0 {
         return;
@@ -100,7 +103,7 @@ fn arrive(
     min: u32,
 )
     requires { ⌜ Arrives stride entry min (length (now lists)) (now lens) (now covered) ⌝ }
-    ensures { λ _. ⌜ Arrived stride entry choice min (now (lists .entry)) (now (lens .entry)) (now (covered .entry)) (now (lists .exit)) (now (lens .exit)) (now (covered .exit)) ⌝ }
+    ensures { λ _. ⌜ Arrived stride entry choice min (old lists) (old lens) (old covered) (new lists) (new lens) (new covered) ⌝ }
 {
     if entry == 0 {
         return;
@@ -118,25 +121,25 @@ fn visit(
     lens: &mut [u32; 8],
     covered: &mut [u32; 8],
     stride: usize,
-    old: u8,
-    new: u8,
+    last: u8,
+    next: u8,
     choice: u8,
     min: u32,
 )
-    requires { ⌜ Visits stride old new min (length (now lists)) (now lens) (now covered) ⌝ }
-    ensures { λ _. ⌜ Visited stride old new choice min (now (lists .entry)) (now (lens .entry)) (now (covered .entry)) (now (lists .exit)) (now (lens .exit)) (now (covered .exit)) ⌝ }
+    requires { ⌜ Visits stride last next min (length (now lists)) (now lens) (now covered) ⌝ }
+    ensures { λ _. ⌜ Visited stride last next choice min (old lists) (old lens) (old covered) (new lists) (new lens) (new covered) ⌝ }
 {
-    if old == new {
+    if last == next {
         return;
     }
-    depart(lists, lens, covered, stride, old, choice, min);
-    arrive(lists, lens, covered, stride, new, choice, min);
+    depart(lists, lens, covered, stride, last, choice, min);
+    arrive(lists, lens, covered, stride, next, choice, min);
 }
 
 // Adds a weight to the sum of the slot that an entry names.
-fn add(sums: &mut [u32; 8], entry: u8, weight: u32)
+pub fn add(sums: &mut [u32; 8], entry: u8, weight: u32)
     requires { ⌜ Adds entry weight (now sums) ⌝ }
-    ensures { λ _. ⌜ now (sums .exit) ≡ added entry weight (now (sums .entry)) ⌝ }
+    ensures { λ _. ⌜ new sums ≡ added entry weight (old sums) ⌝ }
 {
     if entry == 0 {
         return;
@@ -148,7 +151,7 @@ fn add(sums: &mut [u32; 8], entry: u8, weight: u32)
 // The sums of the weights of each slot's choices.
 pub fn sums<'a>(entries: &'a [u8; 32], weights: &'a [u32; 32], n: usize) -> [u32; 8]
     requires { ⌜ Weighs (now entries) (now weights) n ⌝ }
-    ensures { λ r. ⌜ Sums (entryAt (now (weights .entry))) (entryAt (now (entries .entry))) n r ⌝ }
+    ensures { λ r. ⌜ Sums (entryAt (old weights)) (entryAt (old entries)) n r ⌝ }
 {
     let mut out = [0u32; 8];
     let mut i = 0;
@@ -159,6 +162,25 @@ pub fn sums<'a>(entries: &'a [u8; 32], weights: &'a [u32; 32], n: usize) -> [u32
     out
 }
 
+// The lengths of the slots' lists and the covered counts in one walk, in arrays of zeros.
+pub fn weigh(
+    lens: &mut [u32; 8],
+    covered: &mut [u32; 8],
+    entries: &[u8; 32],
+    mins: &[u32; 32],
+    n: usize,
+)
+    requires { ⌜ Unweighed (now lens) (now covered) × Weighs (now entries) (now mins) n ⌝ }
+    ensures { λ _. ⌜ SlotSums (old mins) (old entries) n (new lens) (new covered) ⌝ }
+{
+    let mut i = 0;
+    while i < n {
+        add(lens, entries[i], 1);
+        add(covered, entries[i], mins[i]);
+        i += 1;
+    }
+}
+
 // The walk: every choice is visited, upward.
 pub fn carry<'a>(
     lists: &mut [u8],
@@ -166,12 +188,12 @@ pub fn carry<'a>(
     covered: &mut [u32; 8],
     stride: usize,
     n: usize,
-    old: &'a [u8; 32],
-    new: &'a [u8; 32],
+    last: &'a [u8; 32],
+    next: &'a [u8; 32],
     mins: &'a [u32; 32],
 )
-    requires { ⌜ Carries stride n (now old) (now new) (now mins) (length (now lists)) (now lens) (now covered) ⌝ }
-    ensures { λ _. ⌜ Carried stride n (now (old .entry)) (now (new .entry)) (now (mins .entry)) (now (lists .entry)) (now (lists .exit)) (now (covered .exit)) ⌝ }
+    requires { ⌜ Carries stride n (now last) (now next) (now mins) (length (now lists)) (now lens) (now covered) ⌝ }
+    ensures { λ _. ⌜ Carried stride n (old last) (old next) (old mins) (old lists) (new lists) (new covered) ⌝ }
 {
     let mut i = 0;
     while i < n {
@@ -180,8 +202,8 @@ pub fn carry<'a>(
             lens,
             covered,
             stride,
-            old[i],
-            new[i],
+            last[i],
+            next[i],
             i as u8,
             mins[i],
         );
@@ -189,37 +211,58 @@ pub fn carry<'a>(
     }
 }
 
-// Whether a choice is missing from the list of the slot that its entry names.
-fn is_missing(lists: &[u8], lens: &[u32; 8], stride: usize, entry: u8, choice: u8) -> bool
-    requires { ⌜ Looks stride entry (length (now lists)) (now lens) ⌝ }
-    ensures { λ r. ⌜ r ≡ missing stride (entryAt (now (lens .entry))) (now (lists .entry)) choice entry ⌝ }
+// A choice is marked. A byte of a lent list may be no choice at all: every byte has a place.
+fn mark(marks: &mut [u8; 256], choice: u8, entry: u8)
+    requires { ⌜ length (now marks) ≡ 256 ⌝ }
+    ensures { λ _. ⌜ (new marks ≡ set (old marks) choice entry) × (choice < 256) ⌝ }
 {
-    if entry == 0 {
-        return false;
-    }
-    let slot = entry as usize - 1;
-    let len = lens[slot] as usize;
-    let a = stride * slot;
-    let e = a + len;
-    place(&lists[a..e], len, choice) == len
+    marks[choice as usize] = entry;
 }
 
-// Whether some choice is missing: the lists do not hold exactly the choices of the schedule.
-pub fn lacking<'a>(
-    lists: &[u8],
-    lens: &'a [u32; 8],
-    entries: &'a [u8; 32],
-    stride: usize,
-    n: usize,
-) -> bool
-    requires { ⌜ LooksAll stride n (now entries) (length (now lists)) (now lens) ⌝ }
-    ensures { λ r. ⌜ r ≡ isLacking stride (entryAt (now (entries .entry))) n (now (lists .entry)) ⌝ }
+// The choices of a list of `len` entries, which begins at `start`, are marked with its slot's entry.
+fn mark_list(marks: &mut [u8; 256], lists: &[u8], start: usize, len: usize, entry: u8)
+    requires { ⌜ (length (now marks) ≡ 256) × (start + len ≤ length (now lists)) ⌝ }
+    ensures { λ _. ⌜ Noted (old lists) start len entry (old marks) (new marks) ⌝ }
+{
+    let mut j = 0;
+    while j < len {
+        mark(marks, lists[start + j], entry);
+        j += 1;
+    }
+}
+
+// Whether the mark of one of the first n choices is not its entry.
+fn is_stray(marks: &[u8; 256], entries: &[u8; 32], n: usize) -> bool
+    requires { ⌜ n ≤ 32 ⌝ }
+    ensures { λ r. ⌜ r ≡ anyTo n (unmarkedAt (old marks) (entryAt (old entries))) ⌝ }
 {
     let mut bad = false;
-    let mut i = 0;
-    while i < n {
-        bad = bad | is_missing(lists, lens, stride, entries[i], i as u8);
-        i += 1;
+    let mut k = 0;
+    while k < n {
+        bad = bad | (marks[k] != entries[k]);
+        k += 1;
     }
     bad
+}
+
+// Whether the lists do not hold exactly the choices of the schedule. As many choices are marked as the
+// schedule has in its slots, so that each stands once where its mark is its entry.
+pub fn is_misheld(
+    lists: &[u8],
+    lens: &[u32; 8],
+    entries: &[u8; 32],
+    stride: usize,
+    slots: usize,
+    n: usize,
+) -> bool
+    requires { ⌜ Looks stride n slots (now entries) (length (now lists)) (now lens) ⌝ }
+    ensures { λ r. ⌜ r ≡ misheld stride (entryAt (old entries)) n slots (old lists) ⌝ }
+{
+    let mut marks = [0u8; 256];
+    let mut s = 0;
+    while s < slots {
+        mark_list(&mut marks, lists, stride * s, lens[s] as usize, s as u8 + 1);
+        s += 1;
+    }
+    is_stray(&marks, entries, n)
 }

@@ -17,7 +17,7 @@ use Rattle.constraint.specs.Cases.{targetOperand}
 use Rattle.input_data.specs.Day.{constraintAt}
 use Rattle.input_data.specs.declared.ConstraintList.{ConstraintList}
 use Rattle.scheduling.specs.Schedule.{entryAt}
-use Rattle.schedule_state.specs.declared.state.Sizes.{Sizes}
+use Rattle.input_data.specs.declared.Sizes.{Sizes}
 use Rattle.edge_groups.specs.Names.{pairNames, slotNames, slotNamesAt, sameChoicesNames, constraintNames, constraintNamesAt, constraintsNames, memberName, memberNameAt, chooserNames, chooserNamesAt, groupNames, groupNamesAt, dependentNames, names, startOf}
 use Rattle.edge_values.specs.Decode.{isOne, hasOne, choiceFor, planRow, decoded}
 

@@ -27,7 +27,7 @@ use Rattle.schedule_state.specs.Blocks.{cell, cell-in}
 use Rattle.schedule_state.specs.Good.{choosers-most, choices-most, slots-most, part-in, min-most, one-most, counts-of}
 use Rattle.schedule_state.specs.Numbers.{StateAccepted}
 use Rattle.mip_flow_static_data.specs.Nodes.{choiceNode, supplies, Supplying, nodeCount}
-use Rattle.schedule_state.specs.declared.state.Sizes.{Sizes}
+use Rattle.input_data.specs.declared.Sizes.{Sizes}
 use Rattle.mip_flow.specs.Edges.{Offer, offer, Seat, openSeats, scheduled, seatFrom, seatTo, seatMax, seatCost, choiceTo, choiceMax, choiceCost}
 use Rattle.mip_flow.specs.Index.{noEdge, seatCell, numberAt, edgeOf, indexed, indexed-is}
 use Rattle.mip_flow.specs.Lengths.{shortBuffers, shortEdges, shortGroups}

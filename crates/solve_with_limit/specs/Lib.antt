@@ -1,6 +1,5 @@
 -- assignment_solver.rs, solve_with_limit: the calls that build a model and check values.
 pub mod Calls
-pub mod Numbers
 pub mod Alike
 pub mod Building
 pub mod Answers

@@ -4,15 +4,16 @@ use crate::ModelAnswer;
 use crate::number::number_with;
 use input_data::InputData;
 use input_data::Limits;
+use input_data::Sizes;
 use mip_flow::Lengths;
 use schedule_state::AssignmentScheduleState;
-use schedule_state::Sizes;
 ghost use mathlib.Core.Path.{_≡_};
 ghost use mathlib.Core.Bool.{false};
 ghost use lib.ListN.{replicate};
+ghost use Rattle.counting.specs.Lent.{old, new};
 ghost use Rattle.input_data.specs.Lengths.{fullDay};
 ghost use Rattle.plans.specs.Model.{modelInput};
-ghost use Rattle.solve_with_limit.specs.Calls.{buffers, lengthsOf, refused, ModelLeaves};
+ghost use Rattle.solve_with_limit.specs.Calls.{buffers, lengthsOf, lentInput, refused, ModelLent};
 ghost use Rattle.solve_with_limit.specs.Building.{Buildable, ModelMade};
 
 // A refused call: the number, and zeros.
@@ -47,8 +48,12 @@ pub fn put_model(
     blocked: &mut [u16],
     index: &mut [u16; 2048],
 ) -> Counts
-    requires { ⌜ Buildable limits (modelInput day state limit (now preferences) (now costs) (now lists)) (lengthsOf (buffers (now supplies) (now from) (now to) (now max) (now cost) (now entries) (now ends) (now blocked))) × (now index ≡ replicate 2048 65535) ⌝ }
-    ensures { λ r. ⌜ ModelMade limits (modelInput day state limit (now (preferences .entry)) (now (costs .entry)) (now (lists .entry))) (buffers (now (supplies .entry)) (now (from .entry)) (now (to .entry)) (now (max .entry)) (now (cost .entry)) (now (entries .entry)) (now (ends .entry)) (now (blocked .entry))) (buffers (now (supplies .exit)) (now (from .exit)) (now (to .exit)) (now (max .exit)) (now (cost .exit)) (now (entries .exit)) (now (ends .exit)) (now (blocked .exit))) (now (index .exit)) r ⌝ }
+    requires { ⌜ Buildable limits (modelInput day state limit (now preferences) (now costs) (now lists))
+        (lengthsOf (buffers (now supplies) (now from) (now to) (now max) (now cost) (now entries) (now ends) (now blocked)))
+        × (now index ≡ replicate 2048 65535) ⌝ }
+    ensures { λ r. ⌜ ModelMade limits (modelInput day state limit (old preferences) (old costs) (old lists))
+        (buffers (old supplies) (old from) (old to) (old max) (old cost) (old entries) (old ends) (old blocked))
+        (buffers (new supplies) (new from) (new to) (new max) (new cost) (new entries) (new ends) (new blocked)) (new index) r ⌝ }
 {
     let sizes = Sizes {
         stride: limits.choices,
@@ -111,8 +116,8 @@ pub fn put_model(
 
 // Builds the model of a day, a state and its slot lists, at a preference limit.
 pub fn build_model(
-    day: InputData,
-    state: AssignmentScheduleState,
+    day: &[u8],
+    state: &[u8],
     limit: u32,
     preferences: &[u32],
     costs: &[i64],
@@ -126,9 +131,11 @@ pub fn build_model(
     ends: &mut [u16],
     blocked: &mut [u16],
 ) -> ModelAnswer
-    ensures { λ r. ⌜ ModelLeaves fullDay (modelInput day state limit (now (preferences .entry)) (now (costs .entry)) (now (lists .entry))) (buffers (now (supplies .entry)) (now (from .entry)) (now (to .entry)) (now (max .entry)) (now (cost .entry)) (now (entries .entry)) (now (ends .entry)) (now (blocked .entry))) (buffers (now (supplies .exit)) (now (from .exit)) (now (to .exit)) (now (max .exit)) (now (cost .exit)) (now (entries .exit)) (now (ends .exit)) (now (blocked .exit))) r ⌝ }
+    ensures { λ r. ⌜ ModelLent fullDay (old day) (old state) (lentInput (old day) (old state) limit (old preferences) (old costs) (old lists))
+        (buffers (old supplies) (old from) (old to) (old max) (old cost) (old entries) (old ends) (old blocked))
+        (buffers (new supplies) (new from) (new to) (new max) (new cost) (new entries) (new ends) (new blocked)) r ⌝ }
 {
-    let limits = schedule_state::full_day();
+    let limits = input_data::full_day();
     let lengths = Lengths {
         supplies: supplies.len(),
         from: from.len(),
@@ -155,8 +162,8 @@ pub fn build_model(
     let mut index = [65535u16; 2048];
     let counts = put_model(
         limits,
-        day,
-        state,
+        input_data::day_of(day),
+        schedule_state::state_of(state),
         limit,
         preferences,
         costs,

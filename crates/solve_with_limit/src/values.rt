@@ -4,18 +4,17 @@ use crate::ModelAnswer;
 use crate::model::put_model;
 use crate::model::refuse;
 use crate::number::number_with;
-use input_data::InputData;
 use input_data::Limits;
+use input_data::Sizes;
 use mip_flow::Lengths;
-use schedule_state::AssignmentScheduleState;
-use schedule_state::Sizes;
 ghost use mathlib.Core.Path.{_≡_};
 ghost use mathlib.Core.List.{[]};
 ghost use lib.ListN.{length};
+ghost use Rattle.counting.specs.Lent.{old, new};
 ghost use Rattle.input_data.specs.Lengths.{Within, fullDay};
 ghost use Rattle.mip_flow_static_data.specs.Nodes.{nodeCount};
-ghost use Rattle.plans.specs.Model.{modelInput, shortValues};
-ghost use Rattle.solve_with_limit.specs.Calls.{buffers, ValuesLeaves};
+ghost use Rattle.plans.specs.Model.{shortValues};
+ghost use Rattle.solve_with_limit.specs.Calls.{buffers, lentInput, ValuesLent};
 ghost use Rattle.solve_with_limit.specs.Checking.{Checkable, bufferNumber};
 
 // 2. The values or the plan are shorter than their named lengths.
@@ -57,8 +56,8 @@ fn values_number(
 
 // Builds the model, checks the values against it, and decodes them into the plan.
 pub fn check_values(
-    day: InputData,
-    state: AssignmentScheduleState,
+    day: &[u8],
+    state: &[u8],
     limit: u32,
     preferences: &[u32],
     costs: &[i64],
@@ -74,9 +73,11 @@ pub fn check_values(
     blocked: &mut [u16],
     plan: &mut [u8],
 ) -> ModelAnswer
-    ensures { λ r. ⌜ ValuesLeaves fullDay (modelInput day state limit (now (preferences .entry)) (now (costs .entry)) (now (lists .entry))) (now (values .entry)) (buffers (now (supplies .entry)) (now (from .entry)) (now (to .entry)) (now (max .entry)) (now (cost .entry)) (now (entries .entry)) (now (ends .entry)) (now (blocked .entry))) (now (plan .entry)) (buffers (now (supplies .exit)) (now (from .exit)) (now (to .exit)) (now (max .exit)) (now (cost .exit)) (now (entries .exit)) (now (ends .exit)) (now (blocked .exit))) (now (plan .exit)) r ⌝ }
+    ensures { λ r. ⌜ ValuesLent fullDay (old day) (old state) (lentInput (old day) (old state) limit (old preferences) (old costs) (old lists)) (old values)
+        (buffers (old supplies) (old from) (old to) (old max) (old cost) (old entries) (old ends) (old blocked)) (old plan)
+        (buffers (new supplies) (new from) (new to) (new max) (new cost) (new entries) (new ends) (new blocked)) (new plan) r ⌝ }
 {
-    let limits = schedule_state::full_day();
+    let limits = input_data::full_day();
     let lengths = Lengths {
         supplies: supplies.len(),
         from: from.len(),
@@ -104,8 +105,8 @@ pub fn check_values(
     let mut index = [65535u16; 2048];
     let counts = put_model(
         limits,
-        day,
-        state,
+        input_data::day_of(day),
+        schedule_state::state_of(state),
         limit,
         preferences,
         costs,
@@ -122,9 +123,9 @@ pub fn check_values(
     );
     let sizes = Sizes {
         stride: limits.choices,
-        choosers: day.choosers,
-        choices: day.choices,
-        slots: day.slots,
+        choosers: input_data::choosers(day),
+        choices: input_data::choices(day),
+        slots: input_data::slots(day),
     };
     let broken = values_number(
         sizes,

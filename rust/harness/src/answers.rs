@@ -2,13 +2,14 @@
 use crate::boundary;
 use crate::bridge;
 use crate::constraint::Constraint;
-use crate::day::{CHOICES, CHOOSERS, Day, SLOTS};
+use crate::day::{CHOICES, Day, SLOTS};
 use crate::panics::caught;
+use crate::search::Step;
 use crate::state::blocks_of;
 use oracle::Record;
 use port::{
     BestAnswer, ModelAnswer, NegationAnswer, ScheduleState, Scheduling, Score, Search,
-    SearchAnswer, StateAnswer,
+    SearchAnswer, SlotListAnswer, StateAnswer,
 };
 use std::cmp::Ordering;
 
@@ -75,31 +76,40 @@ pub fn state(day: &Day, state: &oracle::State) -> StateAnswer {
     let mut covered = [0; SLOTS];
     covered[..day.slots].copy_from_slice(&state.covered);
     let schedule = Scheduling { entries: boundary::entries(&state.schedule) };
-    let blocks = blocks_of(day, state);
+    let blocks = blocks_of(day, state).map(u8::from);
     StateAnswer { number: 0, state: ScheduleState { schedule, covered, blocks } }
 }
 
 /// A number and zeros.
 pub fn refused_state(number: u32) -> StateAnswer {
-    let schedule = Scheduling { entries: [0; CHOICES] };
-    let blocks = [false; CHOOSERS * CHOICES];
-    StateAnswer { number, state: ScheduleState { schedule, covered: [0; SLOTS], blocks } }
+    StateAnswer { number, state: ScheduleState::default() }
+}
+
+/// Where the list of a slot is, of this length.
+pub fn slot_list(slot: usize, length: usize) -> SlotListAnswer {
+    SlotListAnswer { number: 0, start: (slot * CHOICES) as u64, length: length as u64 }
 }
 
 /// How much there is of the model that the Rust hands its solver.
 pub fn model(model: &Record) -> ModelAnswer {
     ModelAnswer {
         number: 0,
-        edges: model.edges.len(),
-        entries: model.groups.iter().map(Vec::len).sum(),
-        groups: model.groups.len(),
-        blocked: model.blocked.len(),
+        edges: model.edges.len() as u64,
+        entries: model.groups.iter().map(Vec::len).sum::<usize>() as u64,
+        groups: model.groups.len() as u64,
+        blocked: model.blocked.len() as u64,
     }
 }
 
 /// A number and zeros.
 pub fn refused_model(number: u32) -> ModelAnswer {
     ModelAnswer { number, ..model(&Record::default()) }
+}
+
+/// What a search gives.
+pub fn search(step: Step) -> SearchAnswer {
+    let Step { level, index, search } = step;
+    SearchAnswer { number: 0, level, index: boundary::word(index), search: search.into() }
 }
 
 /// A number and zeros.

@@ -1,33 +1,76 @@
-//! From plain data to the structs of the port. What lies past a day's sizes is
-//! not read: it becomes zeros, small numbers that could pass for sound ones, or
-//! anything.
+//! From plain data to the structs of the port, and to the bytes that are lent.
+//! What lies past a day's sizes is not read: it becomes zeros, small numbers that
+//! could pass for sound ones, or anything.
 use crate::constraint::{Constraint, random_assignment, random_scheduling};
 use crate::day::{CHOICES, CHOOSERS, Day, SLOTS};
 use crate::plan::PLAN;
 use crate::random::Random;
+use crate::reading::Layout;
 use crate::schedule::Schedule;
+use crate::search::Memory;
 use crate::state::State;
-use port::{CachedAssignment, ConstraintList, InputData, ScheduleState, Scheduling};
+use port::guarded::Guarded;
+use port::{AsBytes, InputData, ScheduleState, Scheduling};
 use std::array;
 
 /// The day, sound or damaged. Of what a struct has no room for the front is
 /// taken, since the count beside it tells that there is more.
 pub fn day(random: &mut Random, day: &Day) -> InputData {
     let mut junk = Junk::new(random);
+    let optional = day.optional.iter().copied().map(u8::from).collect::<Vec<_>>();
     InputData {
-        choosers: day.choosers,
-        choices: day.choices,
-        slots: day.slots,
+        choosers: word(day.choosers),
+        choices: word(day.choices),
+        slots: word(day.slots),
         max_preference: day.max_preference,
+        scheduling_count: word(day.scheduling.len()),
+        assignment_count: word(day.assignment.len()),
+        groups: word(day.group_lengths.len()),
         mins: filled(&day.mins, || junk.word()),
         maxs: filled(&day.maxs, || junk.word()),
-        optional: filled(&day.optional, || junk.bit()),
-        scheduling: constraints(&day.scheduling, || junk.constraint(day, random_scheduling)),
-        assignment: constraints(&day.assignment, || junk.constraint(day, random_assignment)),
-        groups: day.group_lengths.len(),
+        optional: filled(&optional, || junk.word() as u8),
         lengths: filled(&day.group_lengths, || junk.word()),
         members: filled(&day.group_members, || junk.word()),
+        scheduling: filled(&day.scheduling, || junk.constraint(day, random_scheduling)),
+        assignment: filled(&day.assignment, || junk.constraint(day, random_assignment)),
     }
+}
+
+/// A size or an index as it crosses.
+pub fn word(size: usize) -> u32 {
+    u32::try_from(size).expect("a number that can cross")
+}
+
+/// A setting as a number: yes is any but 0.
+pub fn setting(random: &mut Random, yes: bool) -> u32 {
+    if yes { random.pick(&[1, 1, 2, 256, 1 << 31, u32::MAX]) } else { 0 }
+}
+
+/// A layout's bytes, to be lent: a flag that is yes may be any byte but 0.
+pub fn lent(random: &mut Random, layout: Layout, of: &impl AsBytes) -> Guarded<u8> {
+    lent_at(random, layout, of, layout.named_length())
+}
+
+/// The same with any length: cut, or with anything behind it.
+pub fn lent_at(
+    random: &mut Random,
+    layout: Layout,
+    of: &impl AsBytes,
+    length: usize,
+) -> Guarded<u8> {
+    let mut bytes = of.bytes().to_vec();
+    let mut junk = Junk::new(random);
+    for place in layout.flags() {
+        bytes[place] = junk.flag(bytes[place]);
+    }
+    bytes.resize_with(length, || junk.word() as u8);
+    Guarded::holding(&bytes)
+}
+
+/// The day's bytes.
+pub fn lent_day(random: &mut Random, plain: &Day) -> Guarded<u8> {
+    let own = day(random, plain);
+    lent(random, Layout::Day, &own)
 }
 
 pub fn schedule(random: &mut Random, day: &Day, schedule: &Schedule) -> Scheduling {
@@ -42,7 +85,7 @@ pub fn state(random: &mut Random, day: &Day, state: &State) -> ScheduleState {
     let own = ScheduleState {
         schedule: Scheduling { entries: entries(&state.schedule) },
         covered: filled(&state.covered, || 0),
-        blocks: filled(&state.blocks, || false),
+        blocks: array::from_fn(|place| state.blocks[place].into()),
     };
     with_rest(random, day, own)
 }
@@ -57,7 +100,7 @@ pub fn with_rest(random: &mut Random, day: &Day, mut state: ScheduleState) -> Sc
         let used = if chooser < choosers { choices } else { 0 };
         let mut bits = junk.word();
         for block in &mut row[used..] {
-            *block = bits & 1 == 1;
+            *block = (bits & 1) as u8;
             bits >>= 1;
         }
     }
@@ -87,19 +130,11 @@ pub fn seats(day: &Day, plan: &[u8]) -> [u8; PLAN] {
 }
 
 /// What a search remembers, with anything past the day's choices and seats.
-pub fn remembered(
-    random: &mut Random,
-    day: &Day,
-    mut cached: CachedAssignment,
-) -> CachedAssignment {
+pub fn remembered(random: &mut Random, day: &Day, mut cached: Memory) -> Memory {
     let mut junk = Junk::new(random);
     cached.schedule.entries[day.choices..].fill_with(|| junk.word() as u8);
     cached.plan[day.choosers * day.slots..].fill_with(|| junk.word() as u8);
     cached
-}
-
-fn constraints(list: &[Constraint], rest: impl FnMut() -> Constraint) -> ConstraintList {
-    ConstraintList { count: list.len(), entries: filled(list, rest) }
 }
 
 /// The front, and what `rest` gives for as much as there is room.
@@ -124,8 +159,9 @@ impl<'a> Junk<'a> {
         (self.random.bits() & self.mask) as u32
     }
 
-    fn bit(&mut self) -> bool {
-        self.word() & 1 == 1
+    /// No stays 0; yes becomes 1 or any other byte but 0.
+    fn flag(&mut self, flag: u8) -> u8 {
+        if flag == 0 { 0 } else { (self.word() as u8).max(1) }
     }
 
     /// Zeros, or a constraint that would block or be refused if it were read.

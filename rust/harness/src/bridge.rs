@@ -1,9 +1,11 @@
 //! From plain data to the types of the originals, and back.
 use crate::constraint::{Constraint, extra, target};
 use crate::day::Day;
+use crate::lists::fronts;
+use crate::state::State;
 use oracle::{
     ChoiceData, ChooserData, ConstraintExtra, ConstraintTarget, ConstraintType, InputData, Problem,
-    SlotData, SlotSizeLimitOp,
+    SlotData, SlotSizeLimitOp, Solver,
 };
 
 /// The problem that a sound day is.
@@ -32,6 +34,16 @@ pub fn problem(day: &Day) -> Problem {
         chooser_constraint_map: Default::default(),
     };
     Problem::new(input_data, day.exponent, day.greedy, day.bound)
+}
+
+/// Asks the Rust with a state and its slot lists, which must be sound.
+pub fn ask<T>(day: &Day, state: &State, what: impl FnOnce(&mut Solver) -> T) -> T {
+    let schedule = &state.schedule[..day.choices];
+    let problem = problem(day);
+    let mut solver = problem.solver();
+    solver.prepare(schedule);
+    solver.reorder(fronts(&state.lists, schedule, day.slots));
+    what(&mut solver)
 }
 
 /// The constraint that these numbers stand for. Numbers that stand for nothing

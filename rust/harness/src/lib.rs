@@ -5,6 +5,7 @@
 pub mod answers;
 pub mod boundary;
 pub mod bridge;
+pub mod call;
 pub mod constraint;
 pub mod damage;
 pub mod day;

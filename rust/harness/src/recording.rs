@@ -1,11 +1,11 @@
 //! Notes of calls: while they are taken, each comparison of a call with what it
 //! must give leaves one. `records/calls.rs` makes a file of them.
-use crate::day::{CHOICES, CHOOSERS, SLOTS};
+use crate::day::{CHOICES, CHOOSERS, Day, SLOTS};
 use port::guarded::Element;
 use port::{
-    BestAnswer, CachedAssignment, ChoiceAnswer, Constraint, ConstraintList, InChoiceAnswer,
-    InputData, ModelAnswer, NegationAnswer, RosterAnswer, ScheduleState, Scheduling, Score,
-    ScoreAnswer, Search, SearchAnswer, SlotListAnswer, StateAnswer, VerdictAnswer,
+    AsBytes, BestAnswer, ChoiceAnswer, Constraint, InChoiceAnswer, ModelAnswer, NegationAnswer,
+    RosterAnswer, ScheduleState, Score, ScoreAnswer, Search, SearchAnswer, SlotListAnswer,
+    StateAnswer, VerdictAnswer,
 };
 use std::cell::RefCell;
 use std::collections::{BTreeMap, BTreeSet};
@@ -41,6 +41,20 @@ pub enum Entry {
     Evaluate,
 }
 
+impl Entry {
+    /// Its name in the header, without the prefix.
+    pub fn name(self) -> String {
+        let mut name = String::new();
+        for letter in format!("{self:?}").chars() {
+            if letter.is_uppercase() && !name.is_empty() {
+                name.push('_');
+            }
+            name.extend(letter.to_lowercase());
+        }
+        name
+    }
+}
+
 /// The number of the last entry.
 pub const LAST: Entry = Entry::Evaluate;
 
@@ -59,19 +73,20 @@ macro_rules! numbers {
     };
 }
 
-numbers!(u8 u32 i32 usize f32);
+numbers!(u8 u32 i32 u64 usize f32);
 
-impl Put for bool {
-    fn put(&self, bytes: &mut Vec<u8>) {
-        bytes.push(u8::from(*self));
-    }
+/// Layouts are put down as their bytes.
+macro_rules! layouts {
+    ($($name:ident)*) => {
+        $(impl Put for $name {
+            fn put(&self, bytes: &mut Vec<u8>) {
+                bytes.extend(self.bytes());
+            }
+        })*
+    };
 }
 
-impl<T: Put, const N: usize> Put for [T; N] {
-    fn put(&self, bytes: &mut Vec<u8>) {
-        self.iter().for_each(|one| one.put(bytes));
-    }
-}
+layouts!(ScheduleState Search);
 
 /// The fields in the order of the header. None can be left out.
 macro_rules! structs {
@@ -88,17 +103,6 @@ macro_rules! structs {
 structs! {
     Score { major, minor }
     Constraint { kind, left, target_case, target, extra_case, extra }
-    ConstraintList { count, entries }
-    InputData {
-        choosers, choices, slots, max_preference, mins, maxs, optional, scheduling, assignment,
-        groups, lengths, members
-    }
-    Scheduling { entries }
-    ScheduleState { schedule, covered, blocks }
-    CachedAssignment { there, greedy, schedule, plan }
-    Search {
-        asking, greedy, found, optimal, asks, level, start, low, high, schedule, plan, cached
-    }
     BestAnswer { number, found, position, score }
     NegationAnswer { number, kind, left, target_case, target, extra_case, extra }
     StateAnswer { number, state }
@@ -147,13 +151,14 @@ impl Note {
         &self.bytes
     }
 
-    pub fn day(mut self, day: &InputData) -> Self {
+    /// A day, and the bytes that it is lent as.
+    pub fn day(mut self, day: &Day, lent: &[u8]) -> Self {
         self.sort.2 = match (day.choosers, day.choices, day.slots) {
             (0, _, _) | (_, _, 0) => Size::Empty,
             (CHOOSERS, CHOICES, SLOTS) => Size::Full,
             _ => Size::Usual,
         };
-        self.put(day)
+        self.table(lent)
     }
 
     /// What else the answer is known by.
@@ -185,7 +190,7 @@ impl Note {
     pub fn slice<T: Element>(mut self, before: &[T], after: &[T]) -> Self {
         let is_pattern = before.len() <= T::pattern().len()
             && T::are_same(before, &T::pattern()[..before.len()]);
-        self = self.put(&is_pattern).put(&before.len());
+        self = self.put(&u8::from(is_pattern)).put(&before.len());
         if !is_pattern {
             self.elements(before);
         }
@@ -199,7 +204,7 @@ impl Note {
     }
 
     fn elements<T: Element>(&mut self, elements: &[T]) {
-        self.bytes.extend(elements.iter().flat_map(|element| element.bytes()));
+        self.bytes.extend(T::bytes(elements));
     }
 }
 

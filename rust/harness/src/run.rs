@@ -4,6 +4,7 @@ use crate::features::Features;
 use crate::panics::caught;
 use crate::random::Random;
 use crate::recording;
+use port::crash;
 use std::fmt::Debug;
 
 /// Failed cases of a suite that are printed; the rest are counted.
@@ -97,6 +98,7 @@ impl<'a> Run<'a> {
         self.next += 1;
         if self.settings.case.is_none_or(|only| only == case) {
             recording::start_case();
+            crash::at((self.suite, self.settings.seed, case));
             let mut random = Random::of_case(self.settings.seed, self.suite, case);
             self.judge(Some(case), || test(&mut random));
         }

@@ -1,23 +1,149 @@
-//! A second reading of document 01's preference search, in the form of the
-//! port's answers.
-use crate::boundary::{entries, kept, seats};
-use crate::day::Day;
+//! A second reading of document 01's preference search, in plain data.
+use crate::boundary::{entries, kept, seats, word};
+use crate::day::{CHOICES, Day};
 use crate::plan::{PLAN, Plan, random_plan};
 use crate::random::Random;
 use crate::schedule::{Schedule, changed_schedule};
 use oracle::{Ask, Told};
-use port::{CachedAssignment, Scheduling, Search, SearchAnswer};
-use std::array;
+use port::{CachedAssignment, Scheduling};
+use std::{array, fmt};
+
+/// A plan that a search remembers.
+#[derive(Clone, Copy, PartialEq, Eq)]
+pub struct Memory {
+    pub there: bool,
+    pub greedy: bool,
+    pub schedule: Scheduling,
+    pub plan: [u8; PLAN],
+}
+
+/// A search as it is handed on from ask to ask.
+#[derive(Clone, Copy, PartialEq, Eq)]
+pub struct Search {
+    pub asking: bool,
+    pub greedy: bool,
+    pub found: bool,
+    pub optimal: bool,
+    pub asks: u32,
+    pub level: u32,
+    pub start: usize,
+    pub low: usize,
+    pub high: usize,
+    pub schedule: Scheduling,
+    pub plan: [u8; PLAN],
+    pub cached: Memory,
+}
+
+impl Memory {
+    /// No plan.
+    pub const NONE: Self = Self {
+        there: false,
+        greedy: false,
+        schedule: Scheduling { entries: [0; CHOICES] },
+        plan: [0; PLAN],
+    };
+}
+
+impl Search {
+    /// A search that has ended with nothing.
+    pub const NONE: Self = Self {
+        asking: false,
+        greedy: false,
+        found: false,
+        optimal: false,
+        asks: 0,
+        level: 0,
+        start: 0,
+        low: 0,
+        high: 0,
+        schedule: Memory::NONE.schedule,
+        plan: [0; PLAN],
+        cached: Memory::NONE,
+    };
+}
+
+/// As a call hands it back: a flag is 0 or 1.
+impl From<Memory> for CachedAssignment {
+    fn from(memory: Memory) -> Self {
+        let Memory { there, greedy, schedule, plan } = memory;
+        Self { there: there.into(), greedy: greedy.into(), schedule, plan }
+    }
+}
+
+/// As a call hands it back: a flag is 0 or 1.
+impl From<Search> for port::Search {
+    fn from(search: Search) -> Self {
+        Self {
+            asking: search.asking.into(),
+            greedy: search.greedy.into(),
+            found: search.found.into(),
+            optimal: search.optimal.into(),
+            asks: search.asks,
+            level: search.level,
+            start: word(search.start),
+            low: word(search.low),
+            high: word(search.high),
+            schedule: search.schedule,
+            plan: search.plan,
+            cached: search.cached.into(),
+        }
+    }
+}
+
+impl From<CachedAssignment> for Memory {
+    fn from(cached: CachedAssignment) -> Self {
+        let CachedAssignment { there, greedy, schedule, plan } = cached;
+        Self { there: there != 0, greedy: greedy != 0, schedule, plan }
+    }
+}
+
+impl From<port::Search> for Search {
+    fn from(search: port::Search) -> Self {
+        Self {
+            asking: search.asking != 0,
+            greedy: search.greedy != 0,
+            found: search.found != 0,
+            optimal: search.optimal != 0,
+            asks: search.asks,
+            level: search.level,
+            start: search.start as usize,
+            low: search.low as usize,
+            high: search.high as usize,
+            schedule: search.schedule,
+            plan: search.plan,
+            cached: search.cached.into(),
+        }
+    }
+}
+
+impl fmt::Debug for Memory {
+    fn fmt(&self, formatter: &mut fmt::Formatter) -> fmt::Result {
+        CachedAssignment::from(*self).fmt(formatter)
+    }
+}
+
+impl fmt::Debug for Search {
+    fn fmt(&self, formatter: &mut fmt::Formatter) -> fmt::Result {
+        port::Search::from(*self).fmt(formatter)
+    }
+}
+
+/// What a call of the search gives. Level and index are 0 where it does not ask.
+#[derive(Debug, Clone, Copy)]
+pub struct Step {
+    pub level: u32,
+    pub index: usize,
+    pub search: Search,
+}
 
 /// The results that a search is told. Any other is Incomplete.
 pub const FEASIBLE: u32 = 0;
 pub const INFEASIBLE: u32 = 1;
 
 /// The search begun, with what an earlier one remembered.
-pub fn begun(day: &Day, schedule: Scheduling, cached: CachedAssignment) -> SearchAnswer {
+pub fn begun(day: &Day, schedule: Scheduling, cached: Memory) -> Step {
     let schedule = kept(day, schedule);
-    let search =
-        Search { greedy: day.greedy, optimal: true, schedule, cached, ..Search::default() };
+    let search = Search { greedy: day.greedy, optimal: true, schedule, cached, ..Search::NONE };
     if remembers(day, &cached, schedule) {
         return stopped(Search { found: true, plan: seats(day, &cached.plan), ..search });
     }
@@ -32,13 +158,13 @@ pub fn begun(day: &Day, schedule: Scheduling, cached: CachedAssignment) -> Searc
 }
 
 /// Whether a memory answers a search of this schedule.
-pub fn remembers(day: &Day, cached: &CachedAssignment, schedule: Scheduling) -> bool {
+pub fn remembers(day: &Day, cached: &Memory, schedule: Scheduling) -> bool {
     cached.there && cached.greedy == day.greedy && kept(day, cached.schedule) == schedule
 }
 
 /// The search told the answer to its ask. The plan is looked at where it is
 /// Feasible.
-pub fn told(day: &Day, search: &Search, told: Told, plan: &[u8]) -> SearchAnswer {
+pub fn told(day: &Day, search: &Search, told: Told, plan: &[u8]) -> Step {
     let mut next = Search { schedule: kept(day, search.schedule), ..*search };
     let (index, level) = asked(day, search);
     let is_feasible = told == Told::Feasible;
@@ -69,45 +195,45 @@ fn asked(day: &Day, search: &Search) -> (usize, u32) {
 }
 
 /// The search with one ask more. The one that waits is counted.
-fn asking(day: &Day, search: Search) -> SearchAnswer {
+fn asking(day: &Day, search: Search) -> Step {
     let (index, level) = asked(day, &search);
     let search = Search { asking: true, asks: search.asks + 1, ..search };
-    SearchAnswer { number: 0, level, index, search }
+    Step { level, index, search }
 }
 
 /// The search at its end: an optimal plan is remembered.
-fn ended(mut search: Search) -> SearchAnswer {
+fn ended(mut search: Search) -> Step {
     if search.found && search.optimal {
         let Search { greedy, schedule, plan, .. } = search;
-        search.cached = CachedAssignment { there: true, greedy, schedule, plan };
+        search.cached = Memory { there: true, greedy, schedule, plan };
     }
     stopped(search)
 }
 
-fn stopped(search: Search) -> SearchAnswer {
-    SearchAnswer { number: 0, level: 0, index: 0, search: Search { asking: false, ..search } }
+fn stopped(search: Search) -> Step {
+    Step { level: 0, index: 0, search: Search { asking: false, ..search } }
 }
 
-/// What an answer asks for, as the Rust tells it.
-pub fn ask_of(answer: &SearchAnswer) -> Option<Ask> {
-    let Search { asking, greedy, low, high, .. } = answer.search;
+/// What a search asks for at a level, as the Rust tells it.
+pub fn ask_of(search: &Search, limit: u32) -> Option<Ask> {
+    let Search { asking, greedy, low, high, .. } = *search;
     let range = (!greedy).then_some((low, high));
-    asking.then_some(Ask { limit: answer.level, range })
+    asking.then_some(Ask { limit, range })
 }
 
 /// The asks of a search that is told one entry of the script at each, and the
 /// search after the last of them.
 pub fn search(day: &Day, script: &[Told]) -> (Vec<Ask>, Search) {
-    let mut answer = begun(day, Scheduling::default(), CachedAssignment::default());
+    let mut step = begun(day, Scheduling::default(), Memory::NONE);
     let mut asks = Vec::new();
     for &entry in script {
-        let Some(ask) = ask_of(&answer) else {
+        let Some(ask) = ask_of(&step.search, step.level) else {
             break;
         };
         asks.push(ask);
-        answer = told(day, &answer.search, entry, &[0; PLAN]);
+        step = told(day, &step.search, entry, &[0; PLAN]);
     }
-    (asks, answer.search)
+    (asks, step.search)
 }
 
 /// Every script that has an entry for each ask of its search, and no more.
@@ -128,7 +254,7 @@ pub fn scripts(day: &Day) -> Vec<Vec<Told>> {
 /// A search of this schedule that asks, somewhere on its way, with this plan as
 /// its best one where it has found one.
 pub fn random_search(random: &mut Random, day: &Day, schedule: &Schedule, plan: &Plan) -> Search {
-    let other = CachedAssignment { there: false, ..random_memory(random, day, schedule) };
+    let other = Memory { there: false, ..random_memory(random, day, schedule) };
     let own = Scheduling { entries: entries(schedule) };
     let mut search = begun(day, own, other).search;
     for _ in 0..random.below(9) {
@@ -149,22 +275,18 @@ pub fn random_search(random: &mut Random, day: &Day, schedule: &Schedule, plan: 
 
 /// No memory, with zeros or anything beside the mark, or one of a plan for this
 /// schedule or another, in either greedy setting.
-pub fn random_memory(random: &mut Random, day: &Day, schedule: &Schedule) -> CachedAssignment {
+pub fn random_memory(random: &mut Random, day: &Day, schedule: &Schedule) -> Memory {
     let other = changed_schedule(random, day, schedule);
     let schedule = if random.chance(50) { schedule } else { &other };
-    let cached = CachedAssignment {
+    let cached = Memory {
         there: true,
         greedy: day.greedy != random.chance(30),
         schedule: Scheduling { entries: entries(schedule) },
         plan: [0; PLAN],
     };
     match (random.below(4), random_plan(random, day, schedule)) {
-        (0, _) | (_, None) => CachedAssignment::default(),
-        (1, _) => CachedAssignment {
-            there: false,
-            plan: array::from_fn(|_| random.bits() as u8),
-            ..cached
-        },
-        (_, Some(plan)) => CachedAssignment { plan: array::from_fn(|place| plan[place]), ..cached },
+        (0, _) | (_, None) => Memory::NONE,
+        (1, _) => Memory { there: false, plan: array::from_fn(|_| random.bits() as u8), ..cached },
+        (_, Some(plan)) => Memory { plan: array::from_fn(|place| plan[place]), ..cached },
     }
 }

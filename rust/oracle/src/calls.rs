@@ -70,10 +70,25 @@ impl<'a> Solved<'a> {
         Self { problem, solution: solution(problem, schedule, plan) }
     }
 
+    fn schedule(&self) -> &Scheduling {
+        self.solution.scheduling().expect("it has a schedule")
+    }
+
     /// `Scheduling::is_feasible` of its schedule.
     pub fn schedule_is_feasible(&self) -> bool {
-        let scheduling = self.solution.scheduling().expect("it has a schedule");
-        scheduling.is_feasible(self.problem.input_data())
+        self.schedule().is_feasible(self.problem.input_data())
+    }
+
+    /// `Scoring::satisfies_constraints_scheduling` of its schedule.
+    pub fn satisfies_scheduling(&self) -> bool {
+        Scoring::satisfies_constraints_scheduling(self.problem.input_data(), self.schedule())
+    }
+
+    /// `Scoring::satisfies_constraints_assignment` of its plan.
+    pub fn satisfies_assignment(&self) -> bool {
+        let plan = self.solution.assignment().expect("it has a plan");
+        let input_data = self.problem.input_data();
+        Scoring::satisfies_constraints_assignment(input_data, self.schedule(), plan)
     }
 
     /// `Scoring::is_feasible`.

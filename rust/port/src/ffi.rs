@@ -43,35 +43,29 @@ pub struct Constraint {
     pub extra: i32,
 }
 
-/// The first `count` entries are the list.
-#[repr(C)]
-#[derive(Debug, Clone, Copy, PartialEq, Eq)]
-pub struct ConstraintList {
-    pub count: usize,
-    pub entries: [Constraint; 32],
-}
-
 /// A day.
 #[repr(C)]
 #[derive(Debug, Clone, Copy, PartialEq, Eq)]
 pub struct InputData {
-    pub choosers: usize,
-    pub choices: usize,
-    pub slots: usize,
+    pub choosers: u32,
+    pub choices: u32,
+    pub slots: u32,
     pub max_preference: u32,
+    pub scheduling_count: u32,
+    pub assignment_count: u32,
+    pub groups: u32,
     pub mins: [u32; 32],
     pub maxs: [u32; 32],
-    pub optional: [bool; 32],
-    pub scheduling: ConstraintList,
-    pub assignment: ConstraintList,
-    pub groups: usize,
+    pub optional: [u8; 32],
     pub lengths: [u32; 16],
     pub members: [u32; 32],
+    pub scheduling: [Constraint; 32],
+    pub assignment: [Constraint; 32],
 }
 
 /// An entry is 0 where the choice has no slot, and s + 1 where it is in slot s.
 #[repr(C)]
-#[derive(Debug, Clone, Copy, PartialEq, Eq, Default)]
+#[derive(Debug, Clone, Copy, PartialEq, Eq)]
 pub struct Scheduling {
     pub entries: [u8; 32],
 }
@@ -82,7 +76,7 @@ pub struct Scheduling {
 pub struct ScheduleState {
     pub schedule: Scheduling,
     pub covered: [u32; 8],
-    pub blocks: [bool; 2048],
+    pub blocks: [u8; 2048],
 }
 
 #[repr(C)]
@@ -97,8 +91,8 @@ pub struct StateAnswer {
 #[derive(Debug, Clone, Copy, PartialEq, Eq)]
 pub struct SlotListAnswer {
     pub number: u32,
-    pub start: usize,
-    pub length: usize,
+    pub start: u64,
+    pub length: u64,
 }
 
 /// How much of a model stands in its buffers.
@@ -106,10 +100,10 @@ pub struct SlotListAnswer {
 #[derive(Debug, Clone, Copy, PartialEq, Eq)]
 pub struct ModelAnswer {
     pub number: u32,
-    pub edges: usize,
-    pub entries: usize,
-    pub groups: usize,
-    pub blocked: usize,
+    pub edges: u64,
+    pub entries: u64,
+    pub groups: u64,
+    pub blocked: u64,
 }
 
 /// How many entries a roster has.
@@ -117,14 +111,14 @@ pub struct ModelAnswer {
 #[derive(Debug, Clone, Copy, PartialEq, Eq)]
 pub struct RosterAnswer {
     pub number: u32,
-    pub length: usize,
+    pub length: u64,
 }
 
 #[repr(C)]
 #[derive(Debug, Clone, Copy, PartialEq, Eq)]
 pub struct InChoiceAnswer {
     pub number: u32,
-    pub found: bool,
+    pub found: u8,
 }
 
 #[repr(C)]
@@ -138,25 +132,26 @@ pub struct ChoiceAnswer {
 #[repr(C)]
 #[derive(Clone, Copy, PartialEq, Eq)]
 pub struct CachedAssignment {
-    pub there: bool,
-    pub greedy: bool,
+    pub there: u8,
+    pub greedy: u8,
     pub schedule: Scheduling,
     pub plan: [u8; 512],
 }
 
-/// A preference search, as it is handed back after each ask.
-#[repr(C)]
+/// A preference search, as it is handed back after each ask. It is packed, since
+/// its length is no multiple of 4.
+#[repr(C, packed)]
 #[derive(Clone, Copy, PartialEq, Eq)]
 pub struct Search {
-    pub asking: bool,
-    pub greedy: bool,
-    pub found: bool,
-    pub optimal: bool,
+    pub asking: u8,
+    pub greedy: u8,
+    pub found: u8,
+    pub optimal: u8,
     pub asks: u32,
     pub level: u32,
-    pub start: usize,
-    pub low: usize,
-    pub high: usize,
+    pub start: u32,
+    pub low: u32,
+    pub high: u32,
     pub schedule: Scheduling,
     pub plan: [u8; 512],
     pub cached: CachedAssignment,
@@ -168,7 +163,7 @@ pub struct Search {
 pub struct SearchAnswer {
     pub number: u32,
     pub level: u32,
-    pub index: usize,
+    pub index: u32,
     pub search: Search,
 }
 
@@ -177,7 +172,7 @@ pub struct SearchAnswer {
 #[derive(Debug, Clone, Copy, PartialEq, Eq)]
 pub struct VerdictAnswer {
     pub number: u32,
-    pub holds: bool,
+    pub holds: u8,
 }
 
 #[repr(C)]
@@ -189,28 +184,37 @@ pub struct ScoreAnswer {
 
 unsafe extern "C" {
     pub fn cendravoka_build(
-        day: InputData,
-        schedule: Scheduling,
+        day: *const u8,
+        day_length: usize,
+        schedule: *const u8,
+        schedule_length: usize,
         lists: *mut u8,
         lists_length: usize,
     ) -> StateAnswer;
     pub fn cendravoka_update(
-        day: InputData,
-        state: ScheduleState,
-        schedule: Scheduling,
+        day: *const u8,
+        day_length: usize,
+        state: *const u8,
+        state_length: usize,
+        schedule: *const u8,
+        schedule_length: usize,
         lists: *mut u8,
         lists_length: usize,
     ) -> StateAnswer;
     pub fn cendravoka_slot_list(
-        day: InputData,
-        state: ScheduleState,
+        day: *const u8,
+        day_length: usize,
+        state: *const u8,
+        state_length: usize,
         lists: *const u8,
         lists_length: usize,
         slot: usize,
     ) -> SlotListAnswer;
     pub fn cendravoka_model(
-        day: InputData,
-        state: ScheduleState,
+        day: *const u8,
+        day_length: usize,
+        state: *const u8,
+        state_length: usize,
         limit: u32,
         preferences: *const u32,
         preferences_length: usize,
@@ -236,8 +240,10 @@ unsafe extern "C" {
         blocked_length: usize,
     ) -> ModelAnswer;
     pub fn cendravoka_check_values(
-        day: InputData,
-        state: ScheduleState,
+        day: *const u8,
+        day_length: usize,
+        state: *const u8,
+        state_length: usize,
         limit: u32,
         preferences: *const u32,
         preferences_length: usize,
@@ -267,7 +273,8 @@ unsafe extern "C" {
         plan_length: usize,
     ) -> ModelAnswer;
     pub fn cendravoka_choosers_ordered(
-        day: InputData,
+        day: *const u8,
+        day_length: usize,
         plan: *const u8,
         plan_length: usize,
         choice: usize,
@@ -275,7 +282,8 @@ unsafe extern "C" {
         roster_length: usize,
     ) -> RosterAnswer;
     pub fn cendravoka_choices_ordered(
-        day: InputData,
+        day: *const u8,
+        day_length: usize,
         plan: *const u8,
         plan_length: usize,
         chooser: usize,
@@ -283,64 +291,81 @@ unsafe extern "C" {
         roster_length: usize,
     ) -> RosterAnswer;
     pub fn cendravoka_is_in_choice(
-        day: InputData,
+        day: *const u8,
+        day_length: usize,
         plan: *const u8,
         plan_length: usize,
         chooser: usize,
         choice: usize,
     ) -> InChoiceAnswer;
     pub fn cendravoka_choice_of(
-        day: InputData,
+        day: *const u8,
+        day_length: usize,
         plan: *const u8,
         plan_length: usize,
         chooser: usize,
         slot: usize,
     ) -> ChoiceAnswer;
     pub fn cendravoka_begin(
-        day: InputData,
-        schedule: Scheduling,
+        day: *const u8,
+        day_length: usize,
+        schedule: *const u8,
+        schedule_length: usize,
         levels: *const u32,
         levels_length: usize,
         bound: u32,
-        greedy: bool,
-        cached: CachedAssignment,
+        greedy: u32,
+        cached: *const u8,
+        cached_length: usize,
     ) -> SearchAnswer;
     pub fn cendravoka_tell(
-        day: InputData,
-        search: Search,
+        day: *const u8,
+        day_length: usize,
+        search: *const u8,
+        search_length: usize,
         levels: *const u32,
         levels_length: usize,
         result: u32,
         plan: *const u8,
         plan_length: usize,
     ) -> SearchAnswer;
-    pub safe fn cendravoka_satisfies_constraints_scheduling(
-        day: InputData,
-        schedule: Scheduling,
+    pub fn cendravoka_satisfies_constraints_scheduling(
+        day: *const u8,
+        day_length: usize,
+        schedule: *const u8,
+        schedule_length: usize,
     ) -> VerdictAnswer;
-    pub safe fn cendravoka_schedule_is_feasible(
-        day: InputData,
-        schedule: Scheduling,
+    pub fn cendravoka_schedule_is_feasible(
+        day: *const u8,
+        day_length: usize,
+        schedule: *const u8,
+        schedule_length: usize,
     ) -> VerdictAnswer;
     pub fn cendravoka_satisfies_constraints_assignment(
-        day: InputData,
-        schedule: Scheduling,
+        day: *const u8,
+        day_length: usize,
+        schedule: *const u8,
+        schedule_length: usize,
         plan: *const u8,
         plan_length: usize,
     ) -> VerdictAnswer;
     pub fn cendravoka_is_feasible(
-        day: InputData,
-        schedule: Scheduling,
+        day: *const u8,
+        day_length: usize,
+        schedule: *const u8,
+        schedule_length: usize,
         plan: *const u8,
         plan_length: usize,
     ) -> VerdictAnswer;
     pub fn cendravoka_evaluate(
-        day: InputData,
+        day: *const u8,
+        day_length: usize,
         solution: u32,
-        schedule: Scheduling,
+        schedule: *const u8,
+        schedule_length: usize,
         plan: *const u8,
         plan_length: usize,
-        greedy: bool,
+        greedy: u32,
         preferences: *const u32,
         preferences_length: usize,
         powers: *const f32,
@@ -354,10 +379,10 @@ unsafe extern "C" {
         extra_case: u32,
         extra: i32,
     ) -> NegationAnswer;
-    pub safe fn cendravoka_is_valid(kind: u32) -> bool;
-    pub safe fn cendravoka_is_scheduling_constraint(kind: u32) -> bool;
-    pub safe fn cendravoka_is_assignment_constraint(kind: u32) -> bool;
-    pub safe fn cendravoka_is_finite(major: f32, minor: f32) -> bool;
+    pub safe fn cendravoka_is_valid(kind: u32) -> u8;
+    pub safe fn cendravoka_is_scheduling_constraint(kind: u32) -> u8;
+    pub safe fn cendravoka_is_assignment_constraint(kind: u32) -> u8;
+    pub safe fn cendravoka_is_finite(major: f32, minor: f32) -> u8;
     pub safe fn cendravoka_compare(
         left_major: f32,
         left_minor: f32,

@@ -12,8 +12,8 @@ const LONGEST: usize = 8_192;
 
 /// A number of which a buffer can be made.
 pub trait Element: Copy + PartialEq + fmt::Debug + 'static {
-    /// The bytes as they lie in memory.
-    fn bytes(self) -> Vec<u8>;
+    /// The bytes of these numbers as they lie in memory.
+    fn bytes(numbers: &[Self]) -> Vec<u8>;
     /// The number that has these bytes in memory.
     fn of_bytes(bytes: &[u8]) -> Self;
     /// The pattern of guard zones and new buffers, made once.
@@ -25,8 +25,8 @@ pub trait Element: Copy + PartialEq + fmt::Debug + 'static {
 macro_rules! elements {
     ($($number:ty => $are_same:expr,)*) => {
         $(impl Element for $number {
-            fn bytes(self) -> Vec<u8> {
-                self.to_ne_bytes().to_vec()
+            fn bytes(numbers: &[Self]) -> Vec<u8> {
+                numbers.iter().flat_map(|number| number.to_ne_bytes()).collect()
             }
             fn of_bytes(bytes: &[u8]) -> Self {
                 Self::from_ne_bytes(bytes.try_into().expect("as many bytes as the number has"))
@@ -154,11 +154,8 @@ fn first_difference<T: Element>(left: &[T], right: &[T]) -> Option<usize> {
     if T::are_same(left, right) {
         return None;
     }
-    let differ = |(left, right): (&T, &T)| left.bytes() != right.bytes();
-    let cell = left.iter().zip(right).position(differ)?;
-    let (left, right) = (left[cell].bytes(), right[cell].bytes());
-    let byte = left.iter().zip(&right).position(|(left, right)| left != right);
-    Some(cell * size_of::<T>() + byte.expect("unequal numbers have unequal bytes"))
+    let (left, right) = (T::bytes(left), T::bytes(right));
+    left.iter().zip(&right).position(|(left, right)| left != right)
 }
 
 #[cfg(test)]
@@ -173,7 +170,7 @@ mod tests {
         let size = size_of::<T>();
         for byte in 0..made.cells.len() * size {
             let mut other = made.clone();
-            let mut bytes = other.cells[byte / size].bytes();
+            let mut bytes = T::bytes(&[other.cells[byte / size]]);
             bytes[byte % size] ^= 1;
             other.cells[byte / size] = T::of_bytes(&bytes);
             let (start, end) = (ZONE * size, (ZONE + length) * size);

@@ -1,18 +1,24 @@
 //! The exported entries of the proved seating core, as safe functions.
 //!
 //! `include/cendravoka.h` is the interface; the numbers and answers of each
-//! call are said there.
+//! call are said there. What crosses as bytes can be lent as its struct or as any
+//! bytes of any length: the entry tests them.
 #![deny(unsafe_code)]
 
+pub mod crash;
 mod ffi;
 pub mod guarded;
+mod layouts;
+mod lent;
+pub mod pages;
 
 pub use ffi::{
-    BestAnswer, CachedAssignment, ChoiceAnswer, Constraint, ConstraintList, InChoiceAnswer,
-    InputData, ModelAnswer, NegationAnswer, RosterAnswer, ScheduleState, Scheduling, Score,
-    ScoreAnswer, Search, SearchAnswer, SlotListAnswer, StateAnswer, VerdictAnswer,
+    BestAnswer, CachedAssignment, ChoiceAnswer, Constraint, InChoiceAnswer, InputData, ModelAnswer,
+    NegationAnswer, RosterAnswer, ScheduleState, Scheduling, Score, ScoreAnswer, Search,
+    SearchAnswer, SlotListAnswer, StateAnswer, VerdictAnswer,
 };
-use std::fmt;
+pub use layouts::{AsBytes, MEASURES, Measure};
+pub use lent::{Lent, LentMut};
 
 /// The archive that is linked in.
 pub const ARCHIVE: &str = env!("CENDRAVOKA_ARCHIVE");
@@ -20,163 +26,122 @@ pub const ARCHIVE: &str = env!("CENDRAVOKA_ARCHIVE");
 /// The declarations of the entries, for a comparison with the header.
 pub const DECLARATIONS: &str = include_str!("ffi.rs");
 
-impl fmt::Debug for ScheduleState {
-    /// Blocks show as pairs of chooser and choice.
-    fn fmt(&self, formatter: &mut fmt::Formatter) -> fmt::Result {
-        let places = self.blocks.iter().enumerate().filter(|(_, block)| **block);
-        let pairs = places.map(|(place, _)| (place / 32, place % 32)).collect::<Vec<_>>();
-        formatter
-            .debug_struct("ScheduleState")
-            .field("schedule", &self.schedule.entries)
-            .field("covered", &self.covered)
-            .field("blocks", &pairs)
-            .finish()
-    }
-}
-
-impl fmt::Debug for CachedAssignment {
-    /// A plan shows up to its last byte that is not 0.
-    fn fmt(&self, formatter: &mut fmt::Formatter) -> fmt::Result {
-        formatter
-            .debug_struct("CachedAssignment")
-            .field("there", &self.there)
-            .field("greedy", &self.greedy)
-            .field("schedule", &self.schedule.entries)
-            .field("plan", &without_zeros(&self.plan))
-            .finish()
-    }
-}
-
-impl fmt::Debug for Search {
-    /// A plan shows up to its last byte that is not 0.
-    fn fmt(&self, formatter: &mut fmt::Formatter) -> fmt::Result {
-        formatter
-            .debug_struct("Search")
-            .field("asking", &self.asking)
-            .field("greedy", &self.greedy)
-            .field("found", &self.found)
-            .field("optimal", &self.optimal)
-            .field("asks", &self.asks)
-            .field("level", &self.level)
-            .field("start, low, high", &(self.start, self.low, self.high))
-            .field("schedule", &self.schedule.entries)
-            .field("plan", &without_zeros(&self.plan))
-            .field("cached", &self.cached)
-            .finish()
-    }
-}
-
-fn without_zeros(plan: &[u8]) -> &[u8] {
-    let used = plan.iter().rposition(|&byte| byte != 0).map_or(0, |last| last + 1);
-    &plan[..used]
-}
-
-impl Default for CachedAssignment {
-    /// Zeros: no plan.
-    fn default() -> Self {
-        Self { there: false, greedy: false, schedule: Scheduling::default(), plan: [0; 512] }
-    }
-}
-
-impl Default for Search {
-    /// Zeros: a search that has ended with nothing.
-    fn default() -> Self {
-        Self {
-            asking: false,
-            greedy: false,
-            found: false,
-            optimal: false,
-            asks: 0,
-            level: 0,
-            start: 0,
-            low: 0,
-            high: 0,
-            schedule: Scheduling::default(),
-            plan: [0; 512],
-            cached: CachedAssignment::default(),
-        }
-    }
-}
-
 /// A fresh build of the state of a schedule. The slot lists go into `lists`.
 #[allow(unsafe_code)]
-pub fn build(day: &InputData, schedule: Scheduling, lists: &mut [u8]) -> StateAnswer {
-    // SAFETY: the pointer and the length are those of a slice that is lent for
-    // the call alone. The rest goes by value, and the entry tests it.
-    unsafe { ffi::cendravoka_build(*day, schedule, lists.as_mut_ptr(), lists.len()) }
+pub fn build<'a>(
+    day: impl Into<Lent<'a>>,
+    schedule: impl Into<Lent<'a>>,
+    lists: impl Into<LentMut<'a>>,
+) -> StateAnswer {
+    let (day, schedule, lists) = (day.into(), schedule.into(), lists.into());
+    // SAFETY: each pointer and length are those of a slice that is lent for the
+    // call, and to be written only where nobody else has it. The entry tests what
+    // stands in them.
+    #[rustfmt::skip] // A slice a line.
+    let answer = unsafe {
+        ffi::cendravoka_build(
+            day.front(), day.length(),
+            schedule.front(), schedule.length(),
+            lists.front(), lists.length(),
+        )
+    };
+    answer
 }
 
 /// An update of a state, and of its slot lists in `lists`, to another schedule.
 #[allow(unsafe_code)]
-pub fn update(
-    day: &InputData,
-    state: &ScheduleState,
-    schedule: Scheduling,
-    lists: &mut [u8],
+pub fn update<'a>(
+    day: impl Into<Lent<'a>>,
+    state: impl Into<Lent<'a>>,
+    schedule: impl Into<Lent<'a>>,
+    lists: impl Into<LentMut<'a>>,
 ) -> StateAnswer {
+    let (day, state, schedule, lists) = (day.into(), state.into(), schedule.into(), lists.into());
     // SAFETY: as in `build`.
-    unsafe { ffi::cendravoka_update(*day, *state, schedule, lists.as_mut_ptr(), lists.len()) }
+    #[rustfmt::skip] // A slice a line.
+    let answer = unsafe {
+        ffi::cendravoka_update(
+            day.front(), day.length(),
+            state.front(), state.length(),
+            schedule.front(), schedule.length(),
+            lists.front(), lists.length(),
+        )
+    };
+    answer
 }
 
 /// Where the list of a slot stands in `lists`.
 #[allow(unsafe_code)]
-pub fn slot_list(
-    day: &InputData,
-    state: &ScheduleState,
-    lists: &[u8],
+pub fn slot_list<'a>(
+    day: impl Into<Lent<'a>>,
+    state: impl Into<Lent<'a>>,
+    lists: impl Into<Lent<'a>>,
     slot: usize,
 ) -> SlotListAnswer {
-    // SAFETY: as in `build`; the entry only reads the slice.
-    unsafe { ffi::cendravoka_slot_list(*day, *state, lists.as_ptr(), lists.len(), slot) }
+    let (day, state, lists) = (day.into(), state.into(), lists.into());
+    // SAFETY: as in `build`.
+    #[rustfmt::skip] // A slice a line.
+    let answer = unsafe {
+        ffi::cendravoka_slot_list(
+            day.front(), day.length(),
+            state.front(), state.length(),
+            lists.front(), lists.length(),
+            slot,
+        )
+    };
+    answer
 }
 
 /// What is lent to be read for a model: two tables of the day and the slot lists
 /// of the state.
 #[derive(Debug, Clone, Copy)]
 pub struct ModelTables<'a> {
-    pub preferences: &'a [u32],
-    pub costs: &'a [i64],
-    pub lists: &'a [u8],
+    pub preferences: Lent<'a, u32>,
+    pub costs: Lent<'a, i64>,
+    pub lists: Lent<'a>,
 }
 
 /// The buffers that a model is written into.
 #[derive(Debug)]
 pub struct ModelBuffers<'a> {
-    pub supplies: &'a mut [i32],
-    pub from: &'a mut [u16],
-    pub to: &'a mut [u16],
-    pub max: &'a mut [u32],
-    pub cost: &'a mut [i64],
-    pub entries: &'a mut [u16],
-    pub ends: &'a mut [u16],
-    pub blocked: &'a mut [u16],
+    pub supplies: LentMut<'a, i32>,
+    pub from: LentMut<'a, u16>,
+    pub to: LentMut<'a, u16>,
+    pub max: LentMut<'a, u32>,
+    pub cost: LentMut<'a, i64>,
+    pub entries: LentMut<'a, u16>,
+    pub ends: LentMut<'a, u16>,
+    pub blocked: LentMut<'a, u16>,
 }
 
 /// The flow model of a state at a preference limit.
 #[allow(unsafe_code)]
-pub fn model(
-    day: &InputData,
-    state: &ScheduleState,
+pub fn model<'a>(
+    day: impl Into<Lent<'a>>,
+    state: impl Into<Lent<'a>>,
     limit: u32,
     tables: ModelTables,
     buffers: ModelBuffers,
 ) -> ModelAnswer {
-    // SAFETY: as in `build`, for each slice; the tables are only read.
+    let (day, state) = (day.into(), state.into());
+    // SAFETY: as in `build`.
     #[rustfmt::skip] // A slice a line.
     let answer = unsafe {
         ffi::cendravoka_model(
-            *day, *state, limit,
-            tables.preferences.as_ptr(), tables.preferences.len(),
-            tables.costs.as_ptr(), tables.costs.len(),
-            tables.lists.as_ptr(), tables.lists.len(),
-            buffers.supplies.as_mut_ptr(), buffers.supplies.len(),
-            buffers.from.as_mut_ptr(), buffers.from.len(),
-            buffers.to.as_mut_ptr(), buffers.to.len(),
-            buffers.max.as_mut_ptr(), buffers.max.len(),
-            buffers.cost.as_mut_ptr(), buffers.cost.len(),
-            buffers.entries.as_mut_ptr(), buffers.entries.len(),
-            buffers.ends.as_mut_ptr(), buffers.ends.len(),
-            buffers.blocked.as_mut_ptr(), buffers.blocked.len(),
+            day.front(), day.length(),
+            state.front(), state.length(),
+            limit,
+            tables.preferences.front(), tables.preferences.length(),
+            tables.costs.front(), tables.costs.length(),
+            tables.lists.front(), tables.lists.length(),
+            buffers.supplies.front(), buffers.supplies.length(),
+            buffers.from.front(), buffers.from.length(),
+            buffers.to.front(), buffers.to.length(),
+            buffers.max.front(), buffers.max.length(),
+            buffers.cost.front(), buffers.cost.length(),
+            buffers.entries.front(), buffers.entries.length(),
+            buffers.ends.front(), buffers.ends.length(),
+            buffers.blocked.front(), buffers.blocked.length(),
         )
     };
     answer
@@ -185,33 +150,36 @@ pub fn model(
 /// Whether the model of a state at a preference limit accepts these edge values,
 /// and the plan that they stand for.
 #[allow(unsafe_code)]
-pub fn check_values(
-    day: &InputData,
-    state: &ScheduleState,
+pub fn check_values<'a>(
+    day: impl Into<Lent<'a>>,
+    state: impl Into<Lent<'a>>,
     limit: u32,
     tables: ModelTables,
-    values: &[i32],
+    values: impl Into<Lent<'a, i32>>,
     buffers: ModelBuffers,
-    plan: &mut [u8],
+    plan: impl Into<LentMut<'a>>,
 ) -> ModelAnswer {
-    // SAFETY: as in `model`; the values are only read too.
+    let (day, state, values, plan) = (day.into(), state.into(), values.into(), plan.into());
+    // SAFETY: as in `build`.
     #[rustfmt::skip] // A slice a line.
     let answer = unsafe {
         ffi::cendravoka_check_values(
-            *day, *state, limit,
-            tables.preferences.as_ptr(), tables.preferences.len(),
-            tables.costs.as_ptr(), tables.costs.len(),
-            tables.lists.as_ptr(), tables.lists.len(),
-            values.as_ptr(), values.len(),
-            buffers.supplies.as_mut_ptr(), buffers.supplies.len(),
-            buffers.from.as_mut_ptr(), buffers.from.len(),
-            buffers.to.as_mut_ptr(), buffers.to.len(),
-            buffers.max.as_mut_ptr(), buffers.max.len(),
-            buffers.cost.as_mut_ptr(), buffers.cost.len(),
-            buffers.entries.as_mut_ptr(), buffers.entries.len(),
-            buffers.ends.as_mut_ptr(), buffers.ends.len(),
-            buffers.blocked.as_mut_ptr(), buffers.blocked.len(),
-            plan.as_mut_ptr(), plan.len(),
+            day.front(), day.length(),
+            state.front(), state.length(),
+            limit,
+            tables.preferences.front(), tables.preferences.length(),
+            tables.costs.front(), tables.costs.length(),
+            tables.lists.front(), tables.lists.length(),
+            values.front(), values.length(),
+            buffers.supplies.front(), buffers.supplies.length(),
+            buffers.from.front(), buffers.from.length(),
+            buffers.to.front(), buffers.to.length(),
+            buffers.max.front(), buffers.max.length(),
+            buffers.cost.front(), buffers.cost.length(),
+            buffers.entries.front(), buffers.entries.length(),
+            buffers.ends.front(), buffers.ends.length(),
+            buffers.blocked.front(), buffers.blocked.length(),
+            plan.front(), plan.length(),
         )
     };
     answer
@@ -219,111 +187,225 @@ pub fn check_values(
 
 /// `Assignment::choosers_ordered`: the choosers of a choice, into `roster`.
 #[allow(unsafe_code)]
-pub fn choosers_ordered(
-    day: &InputData,
-    plan: &[u8],
+pub fn choosers_ordered<'a>(
+    day: impl Into<Lent<'a>>,
+    plan: impl Into<Lent<'a>>,
     choice: usize,
-    roster: &mut [u8],
+    roster: impl Into<LentMut<'a>>,
 ) -> RosterAnswer {
-    let (front, length) = (roster.as_mut_ptr(), roster.len());
-    // SAFETY: as in `build`, for each slice; the plan is only read.
-    unsafe {
-        ffi::cendravoka_choosers_ordered(*day, plan.as_ptr(), plan.len(), choice, front, length)
-    }
+    let (day, plan, roster) = (day.into(), plan.into(), roster.into());
+    // SAFETY: as in `build`.
+    #[rustfmt::skip] // A slice a line.
+    let answer = unsafe {
+        ffi::cendravoka_choosers_ordered(
+            day.front(), day.length(),
+            plan.front(), plan.length(),
+            choice,
+            roster.front(), roster.length(),
+        )
+    };
+    answer
 }
 
 /// `Assignment::choices_ordered`: the choices of a chooser, into `roster`.
 #[allow(unsafe_code)]
-pub fn choices_ordered(
-    day: &InputData,
-    plan: &[u8],
+pub fn choices_ordered<'a>(
+    day: impl Into<Lent<'a>>,
+    plan: impl Into<Lent<'a>>,
     chooser: usize,
-    roster: &mut [u8],
+    roster: impl Into<LentMut<'a>>,
 ) -> RosterAnswer {
-    let (front, length) = (roster.as_mut_ptr(), roster.len());
-    // SAFETY: as in `choosers_ordered`.
-    unsafe {
-        ffi::cendravoka_choices_ordered(*day, plan.as_ptr(), plan.len(), chooser, front, length)
-    }
+    let (day, plan, roster) = (day.into(), plan.into(), roster.into());
+    // SAFETY: as in `build`.
+    #[rustfmt::skip] // A slice a line.
+    let answer = unsafe {
+        ffi::cendravoka_choices_ordered(
+            day.front(), day.length(),
+            plan.front(), plan.length(),
+            chooser,
+            roster.front(), roster.length(),
+        )
+    };
+    answer
 }
 
 /// `Assignment::is_in_choice`.
 #[allow(unsafe_code)]
-pub fn is_in_choice(day: &InputData, plan: &[u8], chooser: usize, choice: usize) -> InChoiceAnswer {
-    // SAFETY: as in `build`; the entry only reads the slice.
-    unsafe { ffi::cendravoka_is_in_choice(*day, plan.as_ptr(), plan.len(), chooser, choice) }
+pub fn is_in_choice<'a>(
+    day: impl Into<Lent<'a>>,
+    plan: impl Into<Lent<'a>>,
+    chooser: usize,
+    choice: usize,
+) -> InChoiceAnswer {
+    let (day, plan) = (day.into(), plan.into());
+    // SAFETY: as in `build`.
+    #[rustfmt::skip] // A slice a line.
+    let answer = unsafe {
+        ffi::cendravoka_is_in_choice(
+            day.front(), day.length(),
+            plan.front(), plan.length(),
+            chooser,
+            choice,
+        )
+    };
+    answer
 }
 
 /// `Assignment::choice_of`.
 #[allow(unsafe_code)]
-pub fn choice_of(day: &InputData, plan: &[u8], chooser: usize, slot: usize) -> ChoiceAnswer {
-    // SAFETY: as in `is_in_choice`.
-    unsafe { ffi::cendravoka_choice_of(*day, plan.as_ptr(), plan.len(), chooser, slot) }
+pub fn choice_of<'a>(
+    day: impl Into<Lent<'a>>,
+    plan: impl Into<Lent<'a>>,
+    chooser: usize,
+    slot: usize,
+) -> ChoiceAnswer {
+    let (day, plan) = (day.into(), plan.into());
+    // SAFETY: as in `build`.
+    #[rustfmt::skip] // A slice a line.
+    let answer = unsafe {
+        ffi::cendravoka_choice_of(
+            day.front(), day.length(),
+            plan.front(), plan.length(),
+            chooser,
+            slot,
+        )
+    };
+    answer
 }
 
-/// `AssignmentSolver::solve_until`, begun: what the search asks for first.
+/// `AssignmentSolver::solve_until`, begun: what the search asks for first. It is
+/// greedy where `greedy` is not 0.
 #[allow(unsafe_code)]
-pub fn begin(
-    day: &InputData,
-    schedule: Scheduling,
-    levels: &[u32],
+pub fn begin<'a>(
+    day: impl Into<Lent<'a>>,
+    schedule: impl Into<Lent<'a>>,
+    levels: impl Into<Lent<'a, u32>>,
     bound: u32,
-    greedy: bool,
-    cached: &CachedAssignment,
+    greedy: u32,
+    cached: impl Into<Lent<'a>>,
 ) -> SearchAnswer {
-    let (front, length) = (levels.as_ptr(), levels.len());
-    // SAFETY: as in `is_in_choice`.
-    unsafe { ffi::cendravoka_begin(*day, schedule, front, length, bound, greedy, *cached) }
+    let (day, schedule, levels, cached) =
+        (day.into(), schedule.into(), levels.into(), cached.into());
+    // SAFETY: as in `build`.
+    #[rustfmt::skip] // A slice a line.
+    let answer = unsafe {
+        ffi::cendravoka_begin(
+            day.front(), day.length(),
+            schedule.front(), schedule.length(),
+            levels.front(), levels.length(),
+            bound,
+            greedy,
+            cached.front(), cached.length(),
+        )
+    };
+    answer
 }
 
 /// A search is told the answer to its ask: what it asks for next.
 #[allow(unsafe_code)]
-pub fn tell(
-    day: &InputData,
-    search: &Search,
-    levels: &[u32],
+pub fn tell<'a>(
+    day: impl Into<Lent<'a>>,
+    search: impl Into<Lent<'a>>,
+    levels: impl Into<Lent<'a, u32>>,
     result: u32,
-    plan: &[u8],
+    plan: impl Into<Lent<'a>>,
 ) -> SearchAnswer {
-    let (front, length) = (levels.as_ptr(), levels.len());
-    // SAFETY: as in `is_in_choice`, for each slice.
-    unsafe { ffi::cendravoka_tell(*day, *search, front, length, result, plan.as_ptr(), plan.len()) }
+    let (day, search, levels, plan) = (day.into(), search.into(), levels.into(), plan.into());
+    // SAFETY: as in `build`.
+    #[rustfmt::skip] // A slice a line.
+    let answer = unsafe {
+        ffi::cendravoka_tell(
+            day.front(), day.length(),
+            search.front(), search.length(),
+            levels.front(), levels.length(),
+            result,
+            plan.front(), plan.length(),
+        )
+    };
+    answer
 }
 
 /// `Scoring::satisfies_constraints_scheduling`.
-pub fn satisfies_constraints_scheduling(day: &InputData, schedule: Scheduling) -> VerdictAnswer {
-    ffi::cendravoka_satisfies_constraints_scheduling(*day, schedule)
+#[allow(unsafe_code)]
+pub fn satisfies_constraints_scheduling<'a>(
+    day: impl Into<Lent<'a>>,
+    schedule: impl Into<Lent<'a>>,
+) -> VerdictAnswer {
+    let (day, schedule) = (day.into(), schedule.into());
+    // SAFETY: as in `build`.
+    #[rustfmt::skip] // A slice a line.
+    let answer = unsafe {
+        ffi::cendravoka_satisfies_constraints_scheduling(
+            day.front(), day.length(),
+            schedule.front(), schedule.length(),
+        )
+    };
+    answer
 }
 
 /// `Scheduling::is_feasible`.
-pub fn schedule_is_feasible(day: &InputData, schedule: Scheduling) -> VerdictAnswer {
-    ffi::cendravoka_schedule_is_feasible(*day, schedule)
+#[allow(unsafe_code)]
+pub fn schedule_is_feasible<'a>(
+    day: impl Into<Lent<'a>>,
+    schedule: impl Into<Lent<'a>>,
+) -> VerdictAnswer {
+    let (day, schedule) = (day.into(), schedule.into());
+    // SAFETY: as in `build`.
+    #[rustfmt::skip] // A slice a line.
+    let answer = unsafe {
+        ffi::cendravoka_schedule_is_feasible(
+            day.front(), day.length(),
+            schedule.front(), schedule.length(),
+        )
+    };
+    answer
 }
 
 /// `Scoring::satisfies_constraints_assignment`.
 #[allow(unsafe_code)]
-pub fn satisfies_constraints_assignment(
-    day: &InputData,
-    schedule: Scheduling,
-    plan: &[u8],
+pub fn satisfies_constraints_assignment<'a>(
+    day: impl Into<Lent<'a>>,
+    schedule: impl Into<Lent<'a>>,
+    plan: impl Into<Lent<'a>>,
 ) -> VerdictAnswer {
-    let (front, length) = (plan.as_ptr(), plan.len());
-    // SAFETY: as in `is_in_choice`.
-    unsafe { ffi::cendravoka_satisfies_constraints_assignment(*day, schedule, front, length) }
+    let (day, schedule, plan) = (day.into(), schedule.into(), plan.into());
+    // SAFETY: as in `build`.
+    #[rustfmt::skip] // A slice a line.
+    let answer = unsafe {
+        ffi::cendravoka_satisfies_constraints_assignment(
+            day.front(), day.length(),
+            schedule.front(), schedule.length(),
+            plan.front(), plan.length(),
+        )
+    };
+    answer
 }
 
 /// `Scoring::is_feasible`.
 #[allow(unsafe_code)]
-pub fn is_feasible(day: &InputData, schedule: Scheduling, plan: &[u8]) -> VerdictAnswer {
-    // SAFETY: as in `is_in_choice`.
-    unsafe { ffi::cendravoka_is_feasible(*day, schedule, plan.as_ptr(), plan.len()) }
+pub fn is_feasible<'a>(
+    day: impl Into<Lent<'a>>,
+    schedule: impl Into<Lent<'a>>,
+    plan: impl Into<Lent<'a>>,
+) -> VerdictAnswer {
+    let (day, schedule, plan) = (day.into(), schedule.into(), plan.into());
+    // SAFETY: as in `build`.
+    #[rustfmt::skip] // A slice a line.
+    let answer = unsafe {
+        ffi::cendravoka_is_feasible(
+            day.front(), day.length(),
+            schedule.front(), schedule.length(),
+            plan.front(), plan.length(),
+        )
+    };
+    answer
 }
 
 /// What is lent to be read for a score: two tables of the day.
 #[derive(Debug, Clone, Copy)]
 pub struct ScoreTables<'a> {
-    pub preferences: &'a [u32],
-    pub powers: &'a [f32],
+    pub preferences: Lent<'a, u32>,
+    pub powers: Lent<'a, f32>,
 }
 
 /// A solution as it crosses: its kind, and a schedule and a plan that are looked
@@ -331,27 +413,30 @@ pub struct ScoreTables<'a> {
 #[derive(Debug, Clone, Copy)]
 pub struct Solution<'a> {
     pub kind: u32,
-    pub schedule: Scheduling,
-    pub plan: &'a [u8],
+    pub schedule: Lent<'a>,
+    pub plan: Lent<'a>,
 }
 
-/// `Scoring::evaluate`.
+/// `Scoring::evaluate`, greedy where `greedy` is not 0.
 #[allow(unsafe_code)]
-pub fn evaluate(
-    day: &InputData,
+pub fn evaluate<'a>(
+    day: impl Into<Lent<'a>>,
     solution: Solution,
-    greedy: bool,
+    greedy: u32,
     tables: ScoreTables,
 ) -> ScoreAnswer {
-    // SAFETY: as in `is_in_choice`, for each slice.
+    let (day, Solution { kind, schedule, plan }) = (day.into(), solution);
+    // SAFETY: as in `build`.
     #[rustfmt::skip] // A slice a line.
     let answer = unsafe {
         ffi::cendravoka_evaluate(
-            *day, solution.kind, solution.schedule,
-            solution.plan.as_ptr(), solution.plan.len(),
+            day.front(), day.length(),
+            kind,
+            schedule.front(), schedule.length(),
+            plan.front(), plan.length(),
             greedy,
-            tables.preferences.as_ptr(), tables.preferences.len(),
-            tables.powers.as_ptr(), tables.powers.len(),
+            tables.preferences.front(), tables.preferences.length(),
+            tables.powers.front(), tables.powers.length(),
         )
     };
     answer
@@ -369,23 +454,23 @@ pub fn negation(constraint: Constraint) -> NegationAnswer {
     )
 }
 
-/// `Constraint::is_valid`.
-pub fn is_valid(kind: u32) -> bool {
+/// `Constraint::is_valid`: 0 or 1.
+pub fn is_valid(kind: u32) -> u8 {
     ffi::cendravoka_is_valid(kind)
 }
 
-/// `Constraint::is_scheduling_constraint`.
-pub fn is_scheduling_constraint(kind: u32) -> bool {
+/// `Constraint::is_scheduling_constraint`: 0 or 1.
+pub fn is_scheduling_constraint(kind: u32) -> u8 {
     ffi::cendravoka_is_scheduling_constraint(kind)
 }
 
-/// `Constraint::is_assignment_constraint`.
-pub fn is_assignment_constraint(kind: u32) -> bool {
+/// `Constraint::is_assignment_constraint`: 0 or 1.
+pub fn is_assignment_constraint(kind: u32) -> u8 {
     ffi::cendravoka_is_assignment_constraint(kind)
 }
 
-/// `Score::is_finite` of a major and a minor.
-pub fn is_finite((major, minor): (f32, f32)) -> bool {
+/// `Score::is_finite` of a major and a minor: 0 or 1.
+pub fn is_finite((major, minor): (f32, f32)) -> u8 {
     ffi::cendravoka_is_finite(major, minor)
 }
 
@@ -396,10 +481,10 @@ pub fn compare(left: (f32, f32), right: (f32, f32)) -> i32 {
 
 /// The best of `count` scores, listed as major, minor, major, minor, ..
 #[allow(unsafe_code)]
-pub fn best(scores: &[f32], count: usize) -> BestAnswer {
-    // SAFETY: the pointer and the length are those of a slice, which the entry
-    // only reads; whether the count fits them it tests itself.
-    unsafe { ffi::cendravoka_best(scores.as_ptr(), scores.len(), count) }
+pub fn best<'a>(scores: impl Into<Lent<'a, f32>>, count: usize) -> BestAnswer {
+    let scores = scores.into();
+    // SAFETY: as in `build`; whether the count fits the slice the entry tests itself.
+    unsafe { ffi::cendravoka_best(scores.front(), scores.length(), count) }
 }
 
 /// The score of anything without a feasible plan.

@@ -1,6 +1,6 @@
 //! A day in the form of the library, from the lines of a file.
 use crate::file::{At, Lines, Move, Wrong};
-use port::{Constraint, ConstraintList, InputData, Scheduling};
+use port::{InputData, Scheduling};
 use std::array;
 
 /// The named length of slot lists, values and plans, and the choices of a schedule.
@@ -57,22 +57,30 @@ fn day(lines: &Lines) -> Result<InputData, Wrong> {
     let Lines { last, choices, groups, .. } = lines;
     let mins = choices.iter().map(|choice| choice.min).collect::<Vec<_>>();
     let maxs = choices.iter().map(|choice| choice.max).collect::<Vec<_>>();
-    let optional = choices.iter().map(|choice| choice.optional).collect::<Vec<_>>();
+    let optional = choices.iter().map(|choice| choice.optional.into()).collect::<Vec<_>>();
     let lengths = groups.iter().map(|group| group.len() as u32).collect::<Vec<_>>();
     Ok(InputData {
-        choosers: needed("choosers", *last, lines.choosers.as_ref())?.what,
-        choices: choices.len(),
-        slots: needed("slots", *last, lines.slots.as_ref())?.what,
+        choosers: size(needed("choosers", *last, lines.choosers.as_ref())?.what),
+        choices: size(choices.len()),
+        slots: size(needed("slots", *last, lines.slots.as_ref())?.what),
         max_preference: needed("max_preference", *last, lines.max_preference.as_ref())?.what,
+        scheduling_count: size(lines.scheduling.len()),
+        assignment_count: size(lines.assignment.len()),
+        groups: size(groups.len()),
         mins: filled(&mins),
         maxs: filled(&maxs),
         optional: filled(&optional),
-        scheduling: list(&lines.scheduling),
-        assignment: list(&lines.assignment),
-        groups: groups.len(),
         lengths: filled(&lengths),
         members: filled(&groups.concat()),
+        scheduling: filled(&lines.scheduling),
+        assignment: filled(&lines.assignment),
     })
+}
+
+/// A size in the 32 bits that it has in a day. One that is too large for them is
+/// too large for the library as well, which refuses the largest.
+fn size(count: usize) -> u32 {
+    u32::try_from(count).unwrap_or(u32::MAX)
 }
 
 fn needed<T>(name: &str, last: usize, line: Option<T>) -> Result<T, Wrong> {
@@ -102,10 +110,6 @@ fn has_right_moves(lines: &Lines) -> Result<(), Wrong> {
             Err(Wrong { line: one.line, reason })
         }
     }
-}
-
-fn list(list: &[Constraint]) -> ConstraintList {
-    ConstraintList { count: list.len(), entries: filled(list) }
 }
 
 /// The front, and zeros behind it.

@@ -3,10 +3,11 @@ use crate::day::{EDGES, LISTS, PLAN, Told};
 use crate::file::{At, Move, Wrong};
 use crate::refusals::told;
 use port::{
-    CachedAssignment, ModelAnswer, ModelBuffers, ModelTables, ScheduleState, Scheduling,
-    ScoreTables, Solution, VerdictAnswer,
+    CachedAssignment, Lent, ModelAnswer, ModelBuffers, ModelTables, ScheduleState, ScoreTables,
+    Solution, VerdictAnswer,
 };
 use std::fmt::Write;
+use std::ops::Range;
 
 /// A solution with a schedule and a plan.
 const COMPLETE: u32 = 2;
@@ -27,7 +28,7 @@ struct Place<'a> {
 
 pub fn go(told: &Told) -> Result<Way, Wrong> {
     let mut lists = [0; LISTS];
-    let built = port::build(&told.day, told.schedule, &mut lists);
+    let built = port::build(&told.day, &told.schedule, &mut lists);
     let mut place = Place { told, state: built.state, lists, text: String::new() };
     if built.number > 0 {
         return Ok(place.refused("build", built.number));
@@ -53,16 +54,19 @@ impl Place<'_> {
 
     /// The list of each slot, and how many seats are covered there.
     fn say_lists(&mut self) {
-        for slot in 0..self.told.day.slots {
+        for slot in self.slots() {
             let covered = self.state.covered[slot];
             let list = joined(self.list(slot));
             self.say(&format!("  slot {slot}: covered {covered}, list{list}\n"));
         }
     }
 
+    fn slots(&self) -> Range<usize> {
+        0..self.told.day.slots as usize
+    }
+
     fn list(&self, slot: usize) -> &[u8] {
-        let answer = port::slot_list(&self.told.day, &self.state, &self.lists, slot);
-        &self.lists[answer.start..][..answer.length]
+        &self.lists[port::slot_list(&self.told.day, &self.state, &self.lists, slot).range()]
     }
 
     /// A refused move leaves the state as it was.
@@ -71,7 +75,7 @@ impl Place<'_> {
         self.say(&format!("move of choice {choice} to {slot}"));
         let mut schedule = self.state.schedule;
         schedule.entries[choice] = entry;
-        let answer = port::update(&self.told.day, &self.state, schedule, &mut self.lists);
+        let answer = port::update(&self.told.day, &self.state, &schedule, &mut self.lists);
         if answer.number > 0 {
             self.say(&format!(": {}  the state is kept\n", told(answer.number)));
             return;
@@ -87,10 +91,10 @@ impl Place<'_> {
         let Some(levels) = levels else {
             return;
         };
-        let none = CachedAssignment::default();
-        let answer = port::begin(day, self.state.schedule, levels, *bound, *greedy, &none);
+        let (schedule, none) = (&self.state.schedule, CachedAssignment::default());
+        let answer = port::begin(day, schedule, levels, *bound, u32::from(*greedy), &none);
         let ask = match answer.number {
-            0 if answer.search.asking => format!("asks for level {} first\n", answer.level),
+            0 if answer.search.is_asking() => format!("asks for level {} first\n", answer.level),
             0 => "has nothing to ask for\n".to_owned(),
             number => told(number),
         };
@@ -108,7 +112,8 @@ impl Place<'_> {
         self.say(&format!(
             "model at limit {limit}: {edges} edges, {groups} groups, {blocked} blocked\n"
         ));
-        self.say_verdict("schedule", port::schedule_is_feasible(&self.told.day, self.schedule()));
+        let verdict = port::schedule_is_feasible(&self.told.day, &self.state.schedule);
+        self.say_verdict("schedule", verdict);
         match &self.told.values {
             None => Ok(Way { text: self.text, is_whole: true }),
             Some(values) => self.check(values, edges, buffers),
@@ -119,10 +124,10 @@ impl Place<'_> {
     fn check(
         mut self,
         values: &At<Vec<i32>>,
-        edges: usize,
+        edges: u64,
         mut buffers: Buffers,
     ) -> Result<Way, Wrong> {
-        if values.what.len() != edges {
+        if values.what.len() as u64 != edges {
             let reason = format!("there are {} values for {edges} edges", values.what.len());
             return Err(Wrong { line: values.line, reason });
         }
@@ -135,7 +140,7 @@ impl Place<'_> {
             return Ok(self.refused("values", answer.number));
         }
         self.say_plan(&plan);
-        self.say_verdict("plan", port::is_feasible(day, self.schedule(), &plan));
+        self.say_verdict("plan", port::is_feasible(day, &self.state.schedule, &plan));
         let is_whole = self.say_score(&plan);
         Ok(Way { text: self.text, is_whole })
     }
@@ -143,13 +148,13 @@ impl Place<'_> {
     /// Who sits where, slot by slot.
     fn say_plan(&mut self, plan: &[u8]) {
         self.say("plan\n");
-        for slot in 0..self.told.day.slots {
+        for slot in self.slots() {
             self.say(&format!("  slot {slot}\n"));
             for choice in self.list(slot).to_vec() {
                 let mut roster = [0; PLAN];
                 let day = &self.told.day;
                 let answer = port::choosers_ordered(day, plan, choice.into(), &mut roster);
-                let choosers = joined(&roster[..answer.length]);
+                let choosers = joined(&roster[..answer.length as usize]);
                 self.say(&format!("    choice {choice}:{choosers}\n"));
             }
         }
@@ -157,8 +162,8 @@ impl Place<'_> {
 
     fn say_verdict(&mut self, what: &str, answer: VerdictAnswer) {
         let verdict = match answer {
-            VerdictAnswer { number: 0, holds: true } => "feasible\n".to_owned(),
-            VerdictAnswer { number: 0, holds: false } => "not feasible\n".to_owned(),
+            VerdictAnswer { number: 0, holds: 0 } => "not feasible\n".to_owned(),
+            VerdictAnswer { number: 0, .. } => "feasible\n".to_owned(),
             VerdictAnswer { number, .. } => told(number),
         };
         self.say(&format!("{what}: {verdict}"));
@@ -167,8 +172,10 @@ impl Place<'_> {
     /// Whether the score is not refused, which can only be for its table.
     fn say_score(&mut self, plan: &[u8]) -> bool {
         let Told { day, preferences, powers, greedy, .. } = self.told;
-        let solution = Solution { kind: COMPLETE, schedule: self.schedule(), plan };
-        let answer = port::evaluate(day, solution, *greedy, ScoreTables { preferences, powers });
+        let (schedule, plan) = (Lent::from(&self.state.schedule), plan.into());
+        let solution = Solution { kind: COMPLETE, schedule, plan };
+        let tables = ScoreTables { preferences: preferences.into(), powers: powers.into() };
+        let answer = port::evaluate(day, solution, u32::from(*greedy), tables);
         let [major, minor] = [answer.score.major, answer.score.minor].map(f32::from_bits);
         let score = match answer.number {
             0 => format!("major {major}, minor {minor}\n"),
@@ -178,13 +185,10 @@ impl Place<'_> {
         answer.number == 0
     }
 
-    fn schedule(&self) -> Scheduling {
-        self.state.schedule
-    }
-
     fn tables(&self) -> ModelTables<'_> {
         let Told { preferences, costs, .. } = self.told;
-        ModelTables { preferences, costs, lists: &self.lists }
+        let lists = (&self.lists).into();
+        ModelTables { preferences: preferences.into(), costs: costs.into(), lists }
     }
 }
 
@@ -223,7 +227,15 @@ impl Buffers {
     }
 
     fn lend(&mut self) -> ModelBuffers<'_> {
-        let Self { supplies, from, to, max, cost, entries, ends, blocked } = self;
-        ModelBuffers { supplies, from, to, max, cost, entries, ends, blocked }
+        ModelBuffers {
+            supplies: (&mut self.supplies).into(),
+            from: (&mut self.from).into(),
+            to: (&mut self.to).into(),
+            max: (&mut self.max).into(),
+            cost: (&mut self.cost).into(),
+            entries: (&mut self.entries).into(),
+            ends: (&mut self.ends).into(),
+            blocked: (&mut self.blocked).into(),
+        }
     }
 }

@@ -1,52 +1,23 @@
-use mathlib.Core.Path.{refl}
-use Prim.Native.Nat.{_≤_, _-_}
+use mathlib.Core.Path.{_≡_, refl}
+use Prim.Native.Nat.{_≤_, _-_, min}
 use native.Mathlib.Omega.{arith}
 use borrow.Author.Needs.{needs}
-use Rattle.counting.specs.Lists.{Filled, filled-none, filled-more, filled-all}
-use Rattle.scheduling.specs.Schedule.{keptAt}
+use Rattle.counting.specs.Lists.{Padded, padded-none, padded-more, padded-all}
+use Rattle.scheduling.specs.Schedule.{entryAt}
 use Rattle.scheduling.proofs.kept.Statement.{statement}
 use Rattle.scheduling.proofs.kept.Tie as tie
-use Rattle.scheduling.proofs.kept.Reads as reads
-use Rattle.scheduling.proofs.kept.Lts as lts
-use Rattle.scheduling.proofs.kept_at.Reads as kept-at-reads
 
 abbrev Inv-loop : tie.InvT-loop
-Inv-loop choices entries out₀ i₀ out i = (i ≤ 32) × Filled (keptAt choices entries) 32 i out
+Inv-loop choices entries n out₀ i₀ out i = (i ≤ n) × (n ≡ min choices 32) × Padded (entryAt entries) 32 i out
 
 abbrev μ-loop : tie.MeasureT-loop
-μ-loop choices entries out₀ i₀ out i = 32 - i
+μ-loop choices entries n out₀ i₀ out i = n - i
 
--- src/lib.rt:69:5
-loop-holds : tie.Need-loop-holds Inv-loop μ-loop
-loop-holds c = (omega arith, filled-none _ _ _ refl)
-
--- src/lib.rt:70:39
-element-copy-out-kept-at : tie.Need-element-copy-out-kept-at Inv-loop μ-loop
-element-copy-out-kept-at c = search needs
-
--- src/lib.rt:70:18
-kept-at-requires : tie.Need-kept-at-requires Inv-loop μ-loop
-kept-at-requires c κs = search needs
-
--- src/lib.rt:70:9
-array-write-out : tie.Need-array-write-out Inv-loop μ-loop
-array-write-out c = search needs
-
--- src/lib.rt:71:9
-add-i : tie.Need-add-i Inv-loop μ-loop
-add-i c = search needs
-
--- src/lib.rt:69:5
-loop-less : tie.Need-loop-less Inv-loop μ-loop
-loop-less c = search needs
-
--- src/lib.rt:69:5
 loop-again : tie.Need-loop-again Inv-loop μ-loop
-loop-again c = (omega arith, filled-more (omega arith) (c .kept-at .ensures) (c .before .before .before .loop .inv .1))
+loop-again c = let v = c .before .before .loop .inv in (omega arith, v .1, padded-more (omega arith) refl (v .2))
 
--- src/lib.rt:64:1
 returns : tie.Need-returns Inv-loop μ-loop
-returns c = filled-all (omega arith) (c .before .loop .inv .1)
+returns c = padded-all (c .before .before .before .before .args .choices) (omega arith) (c .before .loop .inv .2)
 
 pub kept-spec : {M : Type 1} → statement M
 kept-spec =
@@ -54,11 +25,11 @@ kept-spec =
     (tie.spec
     Inv-loop
     μ-loop
-    loop-holds
-    element-copy-out-kept-at
-    kept-at-requires
-    array-write-out
-    add-i
-    loop-less
+    (λ c κs. search needs)
+    (λ c. (omega arith, c .at-most .ensures, padded-none _ 32))
+    (λ c. search needs)
+    (λ c. search needs)
+    (λ c. search needs)
+    (λ c. search needs)
     loop-again
     returns)

@@ -1,5 +1,4 @@
 use Prim.Native.Nat.{_-_}
-use native.Mathlib.Omega.{arith}
 use borrow.Author.Needs.{needs}
 use Rattle.slot_lists.specs.Walk.{Walking, walking-start, walking-length, walking-visits, walking-more, walking-all}
 use Rattle.slot_lists.proofs.carry.Statement.{statement}

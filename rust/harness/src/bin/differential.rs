@@ -18,6 +18,7 @@ fn main() -> ExitCode {
         }
     };
     panics::set_hook();
+    port::crash::watch();
     if let Some(path) = &options.write_records {
         fs::write(path, records::program::bytes()).expect("the records can be written");
         fs::write(records::calls::PATH, records::calls::bytes()).expect("and those of the calls");

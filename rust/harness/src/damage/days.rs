@@ -1,4 +1,5 @@
 //! Damage to a day, and to what a call is asked about it.
+use super::layouts;
 use super::{Damage, Input};
 use crate::constraint::{
     Constraint, OPERATORS, extra, kind, random_assignment, random_scheduling, target,
@@ -14,6 +15,7 @@ pub const DAMAGES: &[Damage] = &[
     Damage { name: "too many choosers", number: 1, apply: choosers },
     Damage { name: "too many choices", number: 1, apply: choices },
     Damage { name: "too many slots", number: 1, apply: slots },
+    Damage { name: "a day of another length", number: 2, apply: layouts::day },
     Damage { name: "tables for a huge preference", number: 2, apply: huge_preference },
     Damage { name: "min above max", number: 3, apply: min_above_max },
     Damage { name: "max above 1,000", number: 3, apply: max_too_large },
@@ -32,18 +34,21 @@ pub const DAMAGES: &[Damage] = &[
     Damage { name: "a member that is no choice", number: 10, apply: wrong_member },
 ];
 
+/// The largest size that can cross.
+const MOST_SIZE: usize = u32::MAX as usize;
+
 fn choosers(random: &mut Random, input: &mut Input) -> Option<()> {
-    input.day.choosers = random.pick(&[CHOOSERS + 1, CHOOSERS + 7, 1 << 32, usize::MAX]);
+    input.day.choosers = random.pick(&[CHOOSERS + 1, CHOOSERS + 7, 1 << 31, MOST_SIZE]);
     Some(())
 }
 
 fn choices(random: &mut Random, input: &mut Input) -> Option<()> {
-    input.day.choices = random.pick(&[CHOICES + 1, CHOICES + 9, 1 << 32, usize::MAX]);
+    input.day.choices = random.pick(&[CHOICES + 1, CHOICES + 9, 1 << 31, MOST_SIZE]);
     Some(())
 }
 
 fn slots(random: &mut Random, input: &mut Input) -> Option<()> {
-    input.day.slots = random.pick(&[SLOTS + 1, 256, 1 << 32, usize::MAX]);
+    input.day.slots = random.pick(&[SLOTS + 1, 256, 1 << 31, MOST_SIZE]);
     Some(())
 }
 

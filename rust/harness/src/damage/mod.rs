@@ -1,26 +1,31 @@
 //! Damage: changes that make sound input such that a call must refuse it by a
 //! known number, and changes that must make no difference.
 mod days;
+mod layouts;
 mod lent;
 mod plans;
 mod searches;
 mod tables;
 pub mod values;
 
+use crate::boundary::{self, lent_at};
 use crate::bridge;
-use crate::day::{CHOICES, Day};
+use crate::day::{CHOICES, Day, Size, random_day};
 use crate::plan::{Plan, random_plan};
 use crate::random::Random;
-use crate::reading::{Asked, Buffer, Handed};
+use crate::reading::{Asked, Buffer, Handed, Layout};
 use crate::schedule::{Schedule, changed_schedule, random_chain};
-use crate::search::{FEASIBLE, INFEASIBLE, random_search};
+use crate::search::{FEASIBLE, INFEASIBLE, Search, random_search};
 use crate::state::State;
-use port::Search;
+use port::CachedAssignment;
+use port::guarded::Guarded;
 
 /// All that a call may be handed.
 #[derive(Debug, Clone)]
 pub struct Input {
     pub day: Day,
+    /// The lengths that layouts are lent with.
+    pub layouts: Vec<(Layout, usize)>,
     pub buffers: Vec<(Buffer, usize)>,
     pub asked: Vec<Asked>,
     /// The state comes from a chain of schedules; this is the next one.
@@ -38,13 +43,26 @@ impl Input {
     pub fn bare(day: Day) -> Self {
         Self {
             day,
+            layouts: Layout::ALL.map(|layout| (layout, layout.named_length())).to_vec(),
             buffers: Vec::new(),
             asked: Vec::new(),
             schedule: vec![None; CHOICES],
             state: State::none(),
             plan: Vec::new(),
-            search: Search::default(),
+            search: Search::NONE,
             result: FEASIBLE,
+        }
+    }
+
+    /// Sound input around a day, mostly a small one.
+    pub fn sound(random: &mut Random) -> Self {
+        loop {
+            let size = random.pick(&[Size::Small, Size::Small, Size::Small, Size::Middle]);
+            let size = if random.chance(3) { Size::Full } else { size };
+            let day = random_day(random, size);
+            if let Some(input) = Self::random(random, day) {
+                return input;
+            }
         }
     }
 
@@ -76,6 +94,39 @@ impl Input {
         self
     }
 
+    /// These layouts with the lengths that they are lent with.
+    pub fn layouts(&self, these: &[Layout]) -> Vec<(Layout, usize)> {
+        self.layouts.iter().filter(|(layout, _)| these.contains(layout)).copied().collect()
+    }
+
+    pub fn has_named_length(&self, layout: Layout) -> bool {
+        self.layouts.contains(&(layout, layout.named_length()))
+    }
+
+    /// The bytes of a layout as they are lent.
+    pub fn lend(&self, random: &mut Random, layout: Layout) -> Guarded<u8> {
+        let Self { day, schedule, state, search, .. } = self;
+        let length = self.layouts(&[layout])[0].1;
+        match layout {
+            Layout::Day => {
+                let own = boundary::day(random, day);
+                lent_at(random, layout, &own, length)
+            }
+            Layout::Schedule => {
+                let own = boundary::schedule(random, day, schedule);
+                lent_at(random, layout, &own, length)
+            }
+            Layout::State => {
+                let own = boundary::state(random, day, state);
+                lent_at(random, layout, &own, length)
+            }
+            Layout::Search => lent_at(random, layout, &port::Search::from(*search), length),
+            Layout::Memory => {
+                lent_at(random, layout, &CachedAssignment::from(search.cached), length)
+            }
+        }
+    }
+
     pub fn handed(&self) -> Handed<'_> {
         Handed {
             day: Some(&self.day),
@@ -84,6 +135,7 @@ impl Input {
             levels: Some(&self.day.levels),
             powers: Some(&self.day.powers),
             costs: Some(&self.day.costs),
+            layouts: &self.layouts,
             buffers: &self.buffers,
             asked: &self.asked,
             schedule: Some(&self.schedule),
@@ -135,6 +187,9 @@ pub struct Damage {
 pub fn all() -> Vec<&'static Damage> {
     by_number(&[
         days::DAMAGES,
+        layouts::SCHEDULES,
+        layouts::STATES,
+        layouts::SEARCHES,
         tables::DAMAGES,
         tables::BUFFERS,
         tables::LEVELS,
@@ -148,13 +203,20 @@ pub fn all() -> Vec<&'static Damage> {
 /// Damage to a day, a schedule or a state, by number. It does not look at the
 /// tables, buffers and plan beside them.
 pub fn of_states() -> Vec<&'static Damage> {
-    by_number(&[days::DAMAGES, lent::SCHEDULES, lent::DAMAGES])
+    by_number(&[days::DAMAGES, layouts::SCHEDULES, layouts::STATES, lent::SCHEDULES, lent::DAMAGES])
 }
 
 /// Damage to what the two calls on models are handed, by number. They have no
 /// use for preference levels.
 pub fn of_models() -> Vec<&'static Damage> {
-    by_number(&[days::DAMAGES, tables::DAMAGES, tables::BUFFERS, lent::SCHEDULES, lent::DAMAGES])
+    by_number(&[
+        days::DAMAGES,
+        layouts::STATES,
+        tables::DAMAGES,
+        tables::BUFFERS,
+        lent::SCHEDULES,
+        lent::DAMAGES,
+    ])
 }
 
 /// Damage to what the calls on plans are handed, by number. Tables that they
@@ -166,12 +228,26 @@ pub fn of_rosters() -> Vec<&'static Damage> {
 /// Damage to what the verdicts and the score are handed, by number. They have no
 /// use for costs.
 pub fn of_verdicts() -> Vec<&'static Damage> {
-    by_number(&[days::DAMAGES, tables::DAMAGES, lent::SCHEDULES, plans::DAMAGES])
+    by_number(&[
+        days::DAMAGES,
+        layouts::SCHEDULES,
+        tables::DAMAGES,
+        lent::SCHEDULES,
+        plans::DAMAGES,
+    ])
 }
 
 /// Damage to what the calls of a search are handed, by number.
 pub fn of_searches() -> Vec<&'static Damage> {
-    by_number(&[days::DAMAGES, tables::LEVELS, lent::SCHEDULES, plans::DAMAGES, searches::DAMAGES])
+    by_number(&[
+        days::DAMAGES,
+        layouts::SCHEDULES,
+        layouts::SEARCHES,
+        tables::LEVELS,
+        lent::SCHEDULES,
+        plans::DAMAGES,
+        searches::DAMAGES,
+    ])
 }
 
 fn by_number(lists: &[&'static [Damage]]) -> Vec<&'static Damage> {

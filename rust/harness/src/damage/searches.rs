@@ -5,8 +5,8 @@ use super::{Damage, Input};
 use crate::boundary::slots;
 use crate::day::{CHOICES, Day, MOST_ASKS};
 use crate::random::Random;
-use crate::search::FEASIBLE;
-use port::{CachedAssignment, Scheduling, Search};
+use crate::search::{FEASIBLE, Memory, Search};
+use port::Scheduling;
 use std::array;
 
 pub const DAMAGES: &[Damage] = &[
@@ -30,6 +30,9 @@ pub const DAMAGES: &[Damage] = &[
     Damage { name: "anything past the day in a search", number: 0, apply: past_day },
 ];
 
+/// The largest index that can cross.
+const MOST_INDEX: usize = u32::MAX as usize;
+
 /// The search, where it has a best plan.
 fn found(input: &mut Input) -> Option<(&Day, &mut Search)> {
     let Input { day, search, .. } = input;
@@ -37,7 +40,7 @@ fn found(input: &mut Input) -> Option<(&Day, &mut Search)> {
 }
 
 /// What the search remembers, where it does.
-fn there(input: &mut Input) -> Option<(&Day, &mut CachedAssignment)> {
+fn there(input: &mut Input) -> Option<(&Day, &mut Memory)> {
     let Input { day, search: Search { cached, .. }, .. } = input;
     cached.there.then_some((&*day, cached))
 }
@@ -89,7 +92,7 @@ fn not_asking(_: &mut Random, input: &mut Input) -> Option<()> {
 }
 
 fn zeros(_: &mut Random, input: &mut Input) -> Option<()> {
-    input.search = Search::default();
+    input.search = Search::NONE;
     Some(())
 }
 
@@ -98,22 +101,27 @@ fn many_asks(random: &mut Random, input: &mut Input) -> Option<()> {
     Some(())
 }
 
+/// The next index, if it can cross.
+fn above(index: usize) -> Option<usize> {
+    (index < MOST_INDEX).then_some(index + 1)
+}
+
 fn low_below_start(random: &mut Random, input: &mut Input) -> Option<()> {
     let search = ranged(input)?;
-    let above = search.low.checked_add(1)?;
-    search.start = random.pick(&[above, search.high.max(above), usize::MAX]);
+    let above = above(search.low)?;
+    search.start = random.pick(&[above, search.high.max(above), MOST_INDEX]);
     Some(())
 }
 
 fn high_below_low(random: &mut Random, input: &mut Input) -> Option<()> {
     let search = ranged(input)?;
-    search.low = random.pick(&[search.high.checked_add(1)?, usize::MAX]);
+    search.low = random.pick(&[above(search.high)?, MOST_INDEX]);
     Some(())
 }
 
 fn high_past_levels(random: &mut Random, input: &mut Input) -> Option<()> {
     let count = input.day.levels.len();
-    ranged(input)?.high = random.pick(&[count, count + 1, usize::MAX]);
+    ranged(input)?.high = random.pick(&[count, count + 1, MOST_INDEX]);
     Some(())
 }
 
@@ -130,7 +138,7 @@ fn most_asks(_: &mut Random, input: &mut Input) -> Option<()> {
 
 fn greedy_range(random: &mut Random, input: &mut Input) -> Option<()> {
     let search = &mut input.search;
-    let mut any = || random.pick(&[0, 1, 2, 300, usize::MAX]);
+    let mut any = || random.pick(&[0, 1, 2, 300, MOST_INDEX]);
     search.greedy.then(|| (search.start, search.low, search.high) = (any(), any(), any()))
 }
 
@@ -138,7 +146,7 @@ fn no_memory(random: &mut Random, input: &mut Input) -> Option<()> {
     let schedule = Scheduling { entries: array::from_fn(|_| random.bits() as u8) };
     let plan = array::from_fn(|_| random.bits() as u8);
     let greedy = random.chance(50);
-    input.search.cached = CachedAssignment { there: false, greedy, schedule, plan };
+    input.search.cached = Memory { there: false, greedy, schedule, plan };
     Some(())
 }
 

@@ -5,9 +5,9 @@
 //! 128 stands before as many bytes and one more; a byte from 128 on stands for as
 //! many zeros as it is above 127. Unsqueezed they are the count of the records
 //! and the records. A record is the number of its entry, what is passed in the
-//! order of the header, and the answer. Structs stand field by field, numbers
-//! lowest byte first, and a size_t has 8 bytes. How a slice is put down is said
-//! in `recording.rs`.
+//! order of the header, and the answer, field by field. Numbers stand lowest byte
+//! first, a size_t has 8 bytes, and a state or a search is its bytes. How a slice
+//! is put down is said in `recording.rs`.
 use crate::answers::{self, refused_best, score_bits};
 use crate::bridge;
 use crate::constraint::Constraint;
@@ -22,7 +22,7 @@ use std::collections::BTreeSet;
 /// Where the file is, whatever folder the harness runs in.
 pub const PATH: &str = concat!(env!("CARGO_MANIFEST_DIR"), "/../../tests/records.bin");
 
-const MAGIC: &[u8] = b"CENDRAV1";
+const MAGIC: &[u8] = b"CENDRAV2";
 /// The records never depend on the seed of a run.
 const SEED: u64 = 1;
 /// The file stays below this many bytes.
@@ -67,7 +67,7 @@ fn put_constraints(random: &mut Random, notes: &mut Vec<Note>) {
             (Entry::IsAssignmentConstraint, own.is_assignment_constraint()),
         ];
         for (entry, holds) in tests {
-            notes.push(Note::new(entry, 0).put(&kind).put(&holds));
+            notes.push(Note::new(entry, 0).put(&kind).put(&u8::from(holds)));
         }
         for _ in 0..2 {
             let (target_case, target) = random.pick(&TARGETS);
@@ -85,7 +85,7 @@ fn put_scores(random: &mut Random, notes: &mut Vec<Note>) {
         let left = if random.chance(50) { random_finite(random) } else { random_score(random) };
         let right =
             if random.chance(50) { score_near(random, left) } else { random_finite(random) };
-        let is_finite = oracle::calls::is_finite(left);
+        let is_finite = u8::from(oracle::calls::is_finite(left));
         let order = answers::compare(left, right);
         notes.push(Note::new(Entry::IsFinite, 0).put(&left.0).put(&left.1).put(&is_finite));
         let note = Note::new(Entry::Compare, 0).put(&left.0).put(&left.1);

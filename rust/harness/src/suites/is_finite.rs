@@ -16,7 +16,7 @@ pub fn run(run: &mut Run) {
 }
 
 fn is_finite(score: Pair) -> Outcome {
-    same(port::is_finite(score), oracle::calls::is_finite(score), || {
+    same(port::is_finite(score), oracle::calls::is_finite(score).into(), || {
         format!("{score:?} {:x} {:x}", score.0.to_bits(), score.1.to_bits())
     })
 }

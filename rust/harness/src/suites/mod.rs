@@ -18,6 +18,7 @@ mod sample;
 mod search;
 mod state;
 pub mod verdict;
+mod wild;
 
 pub type Suite = (&'static str, fn(&mut Run));
 
@@ -43,4 +44,5 @@ pub const SUITES: &[Suite] = &[
     ("search_refusals", search::refusals::run),
     ("verdict", verdict::run),
     ("verdict_refusals", verdict::refusals::run),
+    ("wild", wild::run),
 ];

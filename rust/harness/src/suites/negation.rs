@@ -72,19 +72,12 @@ pub fn run(run: &mut Run) {
 
 fn tests_of_kind(run: &mut Run, kind: u32) {
     let constraint = bridge::constraint(Constraint { kind, ..Constraint::default() });
-    run.case(|_| same(port::is_valid(kind), constraint.is_valid(), || is_of("is_valid", kind)));
-    run.case(|_| {
-        let (port, rust) =
-            (port::is_scheduling_constraint(kind), constraint.is_scheduling_constraint());
-        same(port, rust, || is_of("is_scheduling_constraint", kind))
-    });
-    run.case(|_| {
-        let (port, rust) =
-            (port::is_assignment_constraint(kind), constraint.is_assignment_constraint());
-        same(port, rust, || is_of("is_assignment_constraint", kind))
-    });
-}
-
-fn is_of(test: &str, kind: u32) -> String {
-    format!("{test} of {kind}")
+    let mut test = |name: &str, port: fn(u32) -> u8, rust: bool| {
+        run.case(|_| same(port(kind), rust.into(), || format!("{name} of {kind}")));
+    };
+    test("is_valid", port::is_valid, constraint.is_valid());
+    let rust = constraint.is_scheduling_constraint();
+    test("is_scheduling_constraint", port::is_scheduling_constraint, rust);
+    let rust = constraint.is_assignment_constraint();
+    test("is_assignment_constraint", port::is_assignment_constraint, rust);
 }

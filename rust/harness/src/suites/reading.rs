@@ -2,10 +2,9 @@
 //! number that it was made for, and of two faults the first one decides.
 use crate::bridge;
 use crate::damage::{self, Damage, Input, values};
-use crate::day::{Size, random_day};
 use crate::features::Features;
 use crate::random::Random;
-use crate::reading::{faults, number, values_number};
+use crate::reading::{Layout, faults, number, values_number};
 use crate::run::{Outcome, Run, wanted};
 
 /// Fewer inputs than these need not show every damage.
@@ -25,7 +24,7 @@ pub fn run(run: &mut Run) {
 }
 
 fn one_input(random: &mut Random, features: &mut Features) -> Outcome {
-    let input = sound_input(random);
+    let input = Input::sound(random);
     wanted(faults(&input.handed()), Vec::new(), || format!("{input:?}"))?;
     let damages = damage::all();
     for &damage in &damages {
@@ -44,17 +43,6 @@ fn one_input(random: &mut Random, features: &mut Features) -> Outcome {
         two_faults(random, features, &input, pair[0], pair[1])?;
     }
     Ok(())
-}
-
-fn sound_input(random: &mut Random) -> Input {
-    loop {
-        let size = random.pick(&[Size::Small, Size::Small, Size::Small, Size::Middle]);
-        let size = if random.chance(3) { Size::Full } else { size };
-        let day = random_day(random, size);
-        if let Some(input) = Input::random(random, day) {
-            return input;
-        }
-    }
 }
 
 /// Both damages at once, the later check's first: the earlier check decides.
@@ -77,7 +65,9 @@ fn two_faults(
         let name = format!("{} and {} at once", first.number, second.number);
         features.look(name, faults(&damaged.handed()).contains(&second.number));
     }
-    gives(&damaged, first.number, &[first, second])
+    // Nothing is read of a day of another length.
+    let is_whole = damaged.has_named_length(Layout::Day);
+    gives(&damaged, if is_whole { first.number } else { 2 }, &[first, second])
 }
 
 fn gives(damaged: &Input, expected: u32, damages: &[&Damage]) -> Outcome {
@@ -89,7 +79,7 @@ fn gives(damaged: &Input, expected: u32, damages: &[&Damage]) -> Outcome {
 
 /// Edge values that a model accepts, and damage to them.
 fn one_model(random: &mut Random, features: &mut Features) -> Outcome {
-    let Input { day, schedule, .. } = sound_input(random);
+    let Input { day, schedule, .. } = Input::sound(random);
     let problem = bridge::problem(&day);
     let mut solver = problem.solver();
     solver.prepare(&schedule[..day.choices]);

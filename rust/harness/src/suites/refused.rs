@@ -67,7 +67,7 @@ pub fn first(features: &mut Features, call: &str, faults: &[u32]) -> u32 {
 }
 
 /// The name of what shows when a call gives a number.
-fn gives(call: &str, number: u32) -> String {
+pub fn gives(call: &str, number: u32) -> String {
     format!("{call} gives {number}")
 }
 

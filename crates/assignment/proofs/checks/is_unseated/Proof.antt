@@ -5,17 +5,17 @@ use Rattle.assignment.proofs.checks.is_unseated.Tie as tie
 use Rattle.assignment.proofs.checks.is_unseated.Reads as reads
 use Rattle.assignment.proofs.checks.is_unseated.Lts as lts
 
--- src/checks.rt:37:16
-element-copy-out-result : tie.Need-element-copy-out-result
-element-copy-out-result c = search needs
+-- src/checks.rt:38:16
+shared-slice-read-result : tie.Need-shared-slice-read-result
+shared-slice-read-result c = search needs
 
--- src/checks.rt:37:9
+-- src/checks.rt:38:9
 returns : tie.Need-returns
 returns c = rw (lt-leb _ _ (c .before .if1 .taken))
 
--- src/checks.rt:31:1
+-- src/checks.rt:32:1
 returns-2 : tie.Need-returns-2
 returns-2 c = rw (le-leb _ _ (c .if1 .left))
 
 pub is-unseated-spec : {M : Type 1} → statement M
-is-unseated-spec = tie.close (tie.spec element-copy-out-result returns returns-2)
+is-unseated-spec = tie.close (tie.spec shared-slice-read-result returns returns-2)

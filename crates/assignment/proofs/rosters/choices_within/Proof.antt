@@ -1,8 +1,13 @@
+use mathlib.Core.Path.{_≡_, _∙_}
+use mathlib.Core.Bool.{false}
 use native.Mathlib.Nat.{mul-le-mul}
 use native.Mathlib.Omega.{arith}
 use lib.ListN.{length}
 use Rattle.counting.specs.Tests.{so}
-use Rattle.assignment.specs.Laws.{choices-in, roster-refused, roster-done}
+use Rattle.input_data.specs.Bytes.{dayOf, lentNumber}
+use Rattle.input_data.specs.BytesLaws.{lent-zero}
+use Rattle.assignment.specs.Calls.{choicesNumber}
+use Rattle.assignment.specs.Laws.{plan-lent, choices-in, roster-short, roster-refused, roster-done}
 use borrow.Author.Needs.{needs}
 use Rattle.assignment.proofs.rosters.choices_within.Statement.{statement}
 use Rattle.assignment.proofs.rosters.choices_within.Tie as tie
@@ -11,48 +16,80 @@ use Rattle.assignment.proofs.rosters.choices_within.Lts as lts
 use Rattle.assignment.proofs.checks.plan_number.Reads as plan-number-reads
 use Rattle.assignment.proofs.rosters.put_choices.Reads as put-choices-reads
 use Rattle.assignment.proofs.rosters.roster_answer.Reads as roster-answer-reads
+use Rattle.input_data.proofs.choices.Reads as choices-reads
+use Rattle.input_data.proofs.choosers.Reads as choosers-reads
+use Rattle.input_data.proofs.slots.Reads as slots-reads
 
--- src/rosters.rt:141:32
-mul-short : tie.Need-mul-short
-mul-short c = omega (arith, mul-le-mul (c .before .before .before .pre .choosers) (c .before .before .before .pre .slots))
+-- the number as the promise names it
+numbered : (c : tie.After-plan-number) → (let a = c .before .before .before .before .before .before .before .args in c .plan-number .result ≡ lentNumber (a .limits) (a .day .now) false (choicesNumber (a .limits) (dayOf (a .day .now)) (a .plan .now) (a .chooser) (length (a .roster .now))))
+numbered c = let a = c .before .before .before .before .before .before .before .args in rw (c .before .choosers .ensures) at (c .plan-number .ensures) ∙ plan-lent (a .limits) (a .day .now) (a .plan .now) _ _ (c .before .before .before .if1 .left)
 
--- src/rosters.rt:142:9
-plan-number-requires : tie.Need-plan-number-requires
-plan-number-requires c κs = search needs
-
--- src/rosters.rt:144:9
+-- src/rosters.rt:145:9
 roster-answer-requires : tie.Need-roster-answer-requires
 roster-answer-requires c κs = search needs
 
--- src/rosters.rt:144:9
+-- src/rosters.rt:145:9
 returns : tie.Need-returns
-returns c = roster-refused (c .before .before .plan-number .ensures) (c .before .if1 .taken) (c .roster-answer .ensures)
+returns c = roster-short _ _ _ (c .before .if1 .taken) (c .roster-answer .ensures)
 
--- src/rosters.rt:146:22
-put-choices-requires : tie.Need-put-choices-requires
-put-choices-requires c κs = let a = c .before .before .before .before .before .before .before .args in choices-in (a .limits) (a .day) (a .plan .now) (a .chooser) (length (a .roster .now)) (c .before .before .before .before .before .before .before .pre) (so (c .before .before .plan-number .ensures) (c .before .if1 .left))
+-- src/rosters.rt:147:32
+mul-short : tie.Need-mul-short
+mul-short c = omega (arith, mul-le-mul (c .before .before .before .before .before .pre .choosers) (c .before .before .before .before .before .pre .slots))
 
--- src/rosters.rt:146:5
+-- src/rosters.rt:148:17
+choosers-requires : tie.Need-choosers-requires
+choosers-requires c κs = search needs
+
+-- src/rosters.rt:149:9
+plan-number-requires : tie.Need-plan-number-requires
+plan-number-requires c κs = search needs
+
+-- src/rosters.rt:151:9
 roster-answer-requires-2 : tie.Need-roster-answer-requires-2
 roster-answer-requires-2 c κs = search needs
 
--- src/rosters.rt:131:1
+-- src/rosters.rt:151:9
+returns-2 : tie.Need-returns-2
+returns-2 c = roster-refused (numbered (c .before .before)) (c .before .if2 .taken) (c .roster-answer2 .ensures)
+
+-- src/rosters.rt:153:9
+choices-requires : tie.Need-choices-requires
+choices-requires c κs = search needs
+
+-- src/rosters.rt:156:30
+slots-requires : tie.Need-slots-requires
+slots-requires c κs = search needs
+
+-- src/rosters.rt:156:9
+put-choices-requires : tie.Need-put-choices-requires
+put-choices-requires c κs = let a = c .before .before .before .before .before .before .before .before .before .before .before .args in rw (c .before .slots .ensures, c .before .before .choices .ensures) (choices-in (a .limits) (dayOf (a .day .now)) (a .plan .now) (a .chooser) (length (a .roster .now)) (c .before .before .before .before .before .before .before .before .before .before .before .pre) (lent-zero (a .limits) (a .day .now) false _ (so (numbered (c .before .before .before .before)) (c .before .before .before .if2 .left)) .zero))
+
+-- src/rosters.rt:154:5
+roster-answer-requires-3 : tie.Need-roster-answer-requires-3
+roster-answer-requires-3 c κs = search needs
+
+-- src/rosters.rt:134:1
 same-length : tie.Need-same-length
 same-length c = search needs
 
--- src/rosters.rt:131:1
-returns-2 : tie.Need-returns-2
-returns-2 c = roster-done (so (c .before .before .before .before .before .before .plan-number .ensures) (c .before .before .before .before .before .if1 .left)) (c .roster-answer2 .ensures) (c .before .before .before .put-choices .ensures)
+-- src/rosters.rt:134:1
+returns-3 : tie.Need-returns-3
+returns-3 c = roster-done (so (numbered (c .before .before .before .before .before .before .before .before)) (c .before .before .before .before .before .before .before .if2 .left)) (c .roster-answer3 .ensures) (rw (c .before .before .before .before .before .slots .ensures, c .before .before .before .before .before .before .choices .ensures) at (c .before .before .before .put-choices .ensures))
 
 pub choices-within-spec : {M : Type 1} → statement M
 choices-within-spec =
     tie.close
     (tie.spec
-    mul-short
-    plan-number-requires
     roster-answer-requires
     returns
-    put-choices-requires
+    mul-short
+    choosers-requires
+    plan-number-requires
     roster-answer-requires-2
+    returns-2
+    choices-requires
+    slots-requires
+    put-choices-requires
+    roster-answer-requires-3
     same-length
-    returns-2)
+    returns-3)

@@ -1,25 +1,25 @@
-use Rattle.schedule_state.specs.Good.{full-within}
+use Rattle.input_data.specs.Numbers.{full-within}
 use borrow.Author.Needs.{needs}
 use Rattle.assignment.proofs.rosters.choosers_ordered.Statement.{statement}
 use Rattle.assignment.proofs.rosters.choosers_ordered.Tie as tie
 use Rattle.assignment.proofs.rosters.choosers_ordered.Reads as reads
 use Rattle.assignment.proofs.rosters.choosers_ordered.Lts as lts
 use Rattle.assignment.proofs.rosters.choosers_within.Reads as choosers-within-reads
-use Rattle.schedule_state.proofs.full_day.Reads as full-day-reads
+use Rattle.input_data.proofs.full_day.Reads as full-day-reads
 
--- src/rosters.rt:128:21
+-- src/rosters.rt:131:21
 full-day-requires : tie.Need-full-day-requires
 full-day-requires c κs = search needs
 
--- src/rosters.rt:128:5
+-- src/rosters.rt:131:5
 choosers-within-requires : tie.Need-choosers-within-requires
 choosers-within-requires c κs = rw (c .before .full-day .ensures) full-within
 
--- src/rosters.rt:120:1
+-- src/rosters.rt:128:1
 same-length : tie.Need-same-length
 same-length c = search needs
 
--- src/rosters.rt:120:1
+-- src/rosters.rt:128:1
 returns : tie.Need-returns
 returns c = rw (c .before .before .before .before .full-day .ensures) at (c .before .before .choosers-within .ensures)
 

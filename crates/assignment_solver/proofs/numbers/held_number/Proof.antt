@@ -1,79 +1,118 @@
-use native.Mathlib.Omega.{arith}
-use Rattle.counting.specs.Tests.{so}
 use Rattle.assignment_solver.specs.Calls.{heldNumber}
-use Rattle.assignment.specs.Laws.{seats-most}
 use borrow.Author.Needs.{needs}
 use Rattle.assignment_solver.proofs.numbers.held_number.Statement.{statement}
 use Rattle.assignment_solver.proofs.numbers.held_number.Tie as tie
 use Rattle.assignment_solver.proofs.numbers.held_number.Reads as reads
 use Rattle.assignment_solver.proofs.numbers.held_number.Lts as lts
-use Rattle.assignment_solver.proofs.numbers.bad_if.Reads as bad-if-reads
-use Rattle.assignment_solver.proofs.numbers.bad_kept.Reads as bad-kept-reads
+use Rattle.assignment_solver.proofs.numbers.bad_cached.Reads as bad-cached-reads
+use Rattle.assignment_solver.proofs.numbers.bad_plans.Reads as bad-plans-reads
 use Rattle.assignment_solver.proofs.numbers.is_spent.Reads as is-spent-reads
-use Rattle.assignment_solver.proofs.numbers.outside_if.Reads as outside-if-reads
-use Rattle.assignment_solver.proofs.steps.is_feasible.Reads as is-feasible-reads
+use Rattle.assignment_solver.proofs.numbers.outside_cached.Reads as outside-cached-reads
+use Rattle.input_data.proofs.choices.Reads as choices-reads
+use Rattle.input_data.proofs.slots.Reads as slots-reads
 use Rattle.input_data.proofs.first.Reads as first-reads
+use Rattle.scheduling.proofs.bad_slots.Reads as bad-slots-reads
 
--- src/numbers.rt:124:19
-outside-if-requires : tie.Need-outside-if-requires
-outside-if-requires c κs = search needs
+-- src/numbers.rt:128:9
+choices-requires : tie.Need-choices-requires
+choices-requires c κs = search needs
 
--- src/numbers.rt:125:11
-outside-if-requires-2 : tie.Need-outside-if-requires-2
-outside-if-requires-2 c κs = search needs
+-- src/numbers.rt:129:50
+slots-requires : tie.Need-slots-requires
+slots-requires c κs = search needs
 
--- src/numbers.rt:126:17
-mul-seats : tie.Need-mul-seats
-mul-seats c = omega (arith, seats-most (c .before .before .before .before .before .pre .small))
+-- src/numbers.rt:129:74
+sub-bad-slots : tie.Need-sub-bad-slots
+sub-bad-slots c = search needs
 
--- src/numbers.rt:129:22
-is-feasible-requires : tie.Need-is-feasible-requires
-is-feasible-requires c κs = search needs
+-- src/numbers.rt:129:74
+part-bad-slots-start : tie.Need-part-bad-slots-start
+part-bad-slots-start c = search needs
 
--- src/numbers.rt:129:15
-bad-if-requires : tie.Need-bad-if-requires
-bad-if-requires c κs = (c .before .before .before .before .before .before .before .before .pre .small .choices, λ t. c .before .before .before .before .before .before .before .before .pre .long (so (c .is-feasible .ensures) t))
+-- src/numbers.rt:129:74
+part-bad-slots-end : tie.Need-part-bad-slots-end
+part-bad-slots-end c = search needs
+
+-- src/numbers.rt:129:19
+bad-slots-requires : tie.Need-bad-slots-requires
+bad-slots-requires c κs = search needs
+
+-- src/numbers.rt:130:31
+sub-outside-cached : tie.Need-sub-outside-cached
+sub-outside-cached c = search needs
+
+-- src/numbers.rt:130:31
+part-outside-cached-start : tie.Need-part-outside-cached-start
+part-outside-cached-start c = search needs
+
+-- src/numbers.rt:130:31
+part-outside-cached-end : tie.Need-part-outside-cached-end
+part-outside-cached-end c = search needs
 
 -- src/numbers.rt:130:11
-bad-kept-requires : tie.Need-bad-kept-requires
-bad-kept-requires c κs = (c .before .before .before .before .before .before .before .before .before .pre .small .choices, seats-most (c .before .before .before .before .before .before .before .before .before .pre .small))
+outside-cached-requires : tie.Need-outside-cached-requires
+outside-cached-requires c κs = search needs
 
--- src/numbers.rt:131:11
-bad-kept-requires-2 : tie.Need-bad-kept-requires-2
-bad-kept-requires-2 c κs = (c .before .before .before .before .before .before .before .before .before .before .pre .small .choices, seats-most (c .before .before .before .before .before .before .before .before .before .before .pre .small))
+-- src/numbers.rt:131:15
+bad-plans-requires : tie.Need-bad-plans-requires
+bad-plans-requires c κs = search needs
 
--- src/numbers.rt:132:9
+-- src/numbers.rt:131:70
+sub-bad-cached : tie.Need-sub-bad-cached
+sub-bad-cached c = search needs
+
+-- src/numbers.rt:131:70
+part-bad-cached-start : tie.Need-part-bad-cached-start
+part-bad-cached-start c = search needs
+
+-- src/numbers.rt:131:70
+part-bad-cached-end : tie.Need-part-bad-cached-end
+part-bad-cached-end c = search needs
+
+-- src/numbers.rt:131:54
+bad-cached-requires : tie.Need-bad-cached-requires
+bad-cached-requires c κs = search needs
+
+-- src/numbers.rt:132:63
 is-spent-requires : tie.Need-is-spent-requires
 is-spent-requires c κs = search needs
 
--- src/numbers.rt:141:45
+-- src/numbers.rt:132:45
 first-requires : tie.Need-first-requires
 first-requires c κs = search needs
 
--- src/numbers.rt:141:9
+-- src/numbers.rt:132:9
 first-requires-2 : tie.Need-first-requires-2
 first-requires-2 c κs = search needs
 
--- src/numbers.rt:142:5
+-- src/numbers.rt:133:5
 first-requires-3 : tie.Need-first-requires-3
 first-requires-3 c κs = search needs
 
--- src/numbers.rt:112:1
+-- src/numbers.rt:118:1
 returns : tie.Need-returns
 unfolding heldNumber
-returns c = rw (c .before .first2 .ensures, c .before .before .first .ensures, c .before .before .before .is-spent .ensures, c .before .before .before .before .bad-kept2 .ensures, c .before .before .before .before .before .bad-kept .ensures, c .before .before .before .before .before .before .bad-if .ensures, c .before .before .before .before .before .before .before .is-feasible .ensures, c .before .before .before .before .before .before .before .before .before .before .before .outside-if2 .ensures, c .before .before .before .before .before .before .before .before .before .before .before .before .outside-if .ensures) at (c .first3 .ensures)
+returns c = rw (c .before .first2 .ensures, c .before .before .first .ensures, c .before .before .before .is-spent .ensures, c .before .before .before .before .bad-cached .ensures, c .before .before .before .before .before .before .bad-plans .ensures, c .before .before .before .before .before .before .before .outside-cached .ensures, c .before .before .before .before .before .before .before .before .before .bad-slots .ensures, c .before .before .before .before .before .before .before .before .before .before .before .slots .ensures, c .before .before .before .before .before .before .before .before .before .before .before .before .choices .ensures) at (c .first3 .ensures)
 
 pub held-number-spec : {M : Type 1} → statement M
 held-number-spec =
     tie.close
     (tie.spec
-    outside-if-requires
-    outside-if-requires-2
-    mul-seats
-    is-feasible-requires
-    bad-if-requires
-    bad-kept-requires
-    bad-kept-requires-2
+    choices-requires
+    slots-requires
+    sub-bad-slots
+    part-bad-slots-start
+    part-bad-slots-end
+    bad-slots-requires
+    sub-outside-cached
+    part-outside-cached-start
+    part-outside-cached-end
+    outside-cached-requires
+    bad-plans-requires
+    sub-bad-cached
+    part-bad-cached-start
+    part-bad-cached-end
+    bad-cached-requires
     is-spent-requires
     first-requires
     first-requires-2

@@ -1,10 +1,11 @@
+use mathlib.Core.Path.{_∙_}
 use native.Mathlib.Nat.{mul-le-mul}
 use native.Mathlib.Omega.{arith}
 use Rattle.counting.specs.Tests.{so}
-use Rattle.schedule_state.specs.Numbers.{number-refused, number-else}
-use Rattle.assignment_solver.specs.Search.{told}
-use Rattle.assignment_solver.specs.Calls.{besideLevels, wrongLength, tellNumber}
-use Rattle.assignment_solver.specs.Numbers.{day-holding}
+use Rattle.input_data.specs.Bytes.{dayOf}
+use Rattle.input_data.specs.Numbers.{number-refused, number-else}
+use Rattle.assignment_solver.specs.Calls.{besideLevels}
+use Rattle.assignment_solver.specs.Numbers.{tell-number, tell-passed}
 use borrow.Author.Needs.{needs}
 use Rattle.assignment_solver.proofs.numbers.tell_number.Statement.{statement}
 use Rattle.assignment_solver.proofs.numbers.tell_number.Tie as tie
@@ -16,39 +17,37 @@ use Rattle.assignment_solver.proofs.numbers.wrong_length.Reads as wrong
 use Rattle.assignment_solver.proofs.steps.is_feasible.Reads as is-feasible-reads
 use Rattle.input_data.proofs.day_number.Reads as day-number-reads
 
--- src/numbers.rt:142:16
+-- src/numbers.rt:147:16
 mul-size : tie.Need-mul-size
-mul-size c = omega (arith, mul-le-mul (c .before .before .before .pre .choosers) (c .before .before .before .pre .slots))
+mul-size c = omega (arith, mul-le-mul (c .before .before .before .before .before .pre .0 .choosers) (c .before .before .before .before .before .pre .0 .slots))
 
--- src/numbers.rt:143:30
+-- src/numbers.rt:148:30
 is-feasible-requires : tie.Need-is-feasible-requires
 is-feasible-requires c κs = search needs
 
--- src/numbers.rt:143:9
+-- src/numbers.rt:148:9
 wrong-length-requires : tie.Need-wrong-length-requires
 wrong-length-requires c κs = search needs
 
--- src/numbers.rt:144:54
+-- src/numbers.rt:150:54
 beside-requires : tie.Need-beside-requires
 beside-requires c κs = search needs
 
--- src/numbers.rt:144:9
+-- src/numbers.rt:150:9
 day-number-requires : tie.Need-day-number-requires
 day-number-requires c κs = search needs
 
--- src/numbers.rt:146:9
+-- src/numbers.rt:152:9
 returns : tie.Need-returns
-unfolding tellNumber
-returns c = let a = c .before .before .before .before .before .before .before .before .args in number-refused (a .limits) (a .day) (besideLevels (a .day) (a .levels .now) (wrongLength (a .limits) (told (a .result) (a .plan .now)))) _ (rw (c .before .before .beside .ensures, c .before .before .before .wrong-length .ensures, c .before .before .before .before .is-feasible .ensures) at (c .before .day-number .ensures)) (c .if1 .taken)
+returns c = let e = c .before .before .before .before .before .before .before .before .before .before in let a = e .args in number-refused (a .limits) (dayOf (a .day .now)) (besideLevels (dayOf (a .day .now)) (a .levels .now) _) _ (rw (c .before .before .beside .ensures, c .before .before .before .wrong-length .ensures, c .before .before .before .before .is-feasible .ensures) at (c .before .day-number .ensures)) (c .if1 .taken) ∙ tell-number (a .limits) (a .day .now) (a .search .now) (a .levels .now) (a .result) (a .plan .now) (e .pre .1)
 
--- src/numbers.rt:148:5
+-- src/numbers.rt:154:5
 held-number-requires : tie.Need-held-number-requires
-held-number-requires c κs = let a = c .before .before .before .before .before .before .before .before .args in day-holding (a .limits) (a .day) (a .levels .now) (a .result) (a .plan .now) 0 (c .before .before .before .before .before .before .before .before .pre) (so (rw (c .before .before .beside .ensures, c .before .before .before .wrong-length .ensures, c .before .before .before .before .is-feasible .ensures) at (c .before .day-number .ensures)) (c .if1 .left))
+held-number-requires c κs = let e = c .before .before .before .before .before .before .before .before .before .before in let a = e .args in tell-passed (a .limits) (a .day .now) (a .search .now) (a .levels .now) (a .result) (a .plan .now) (e .pre .1) (e .pre .0) (so (rw (c .before .before .beside .ensures, c .before .before .before .wrong-length .ensures, c .before .before .before .before .is-feasible .ensures) at (c .before .day-number .ensures)) (c .if1 .left))
 
--- src/numbers.rt:131:1
+-- src/numbers.rt:136:1
 returns-2 : tie.Need-returns-2
-unfolding tellNumber
-returns-2 c = let a = c .before .before .before .before .before .before .before .before .before .args in number-else (a .limits) (a .day) (besideLevels (a .day) (a .levels .now) (wrongLength (a .limits) (told (a .result) (a .plan .now)))) _ (rw (c .before .before .before .beside .ensures, c .before .before .before .before .wrong-length .ensures, c .before .before .before .before .before .is-feasible .ensures) at (c .before .before .day-number .ensures)) (c .before .if1 .left) (c .held-number .ensures)
+returns-2 c = let e = c .before .before .before .before .before .before .before .before .before .before .before in let a = e .args in number-else (a .limits) (dayOf (a .day .now)) (besideLevels (dayOf (a .day .now)) (a .levels .now) _) _ (rw (c .before .before .before .beside .ensures, c .before .before .before .before .wrong-length .ensures, c .before .before .before .before .before .is-feasible .ensures) at (c .before .before .day-number .ensures)) (c .before .if1 .left) (c .held-number .ensures) ∙ tell-number (a .limits) (a .day .now) (a .search .now) (a .levels .now) (a .result) (a .plan .now) (e .pre .1)
 
 pub tell-number-spec : {M : Type 1} → statement M
 tell-number-spec =

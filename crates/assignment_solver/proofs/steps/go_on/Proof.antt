@@ -29,6 +29,9 @@ middle-of-requires c κs = search needs
 add-count : tie.Need-add-count
 add-count c = search needs
 
+cast-level : tie.Need-cast-level
+cast-level c = omega arith
+
 -- src/steps.rt:230:17
 mul-level : tie.Need-mul-level
 mul-level c = omega (arith, c .middle-of .ensures, middle-most _ _ (c .before .if1 .left), c .before .before .before .pre .0, c .before .before .before .pre .1)
@@ -54,6 +57,7 @@ go-on-spec =
     returns
     middle-of-requires
     add-count
+    cast-level
     mul-level
     shared-slice-read-level
     hand-back-requires

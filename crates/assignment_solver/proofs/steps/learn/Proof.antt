@@ -1,4 +1,3 @@
-use borrow.Author.Needs.{needs}
 use mathlib.Core.Path.{_≡_}
 use mathlib.Core.Bool.{true}
 use Rattle.assignment_solver.specs.Search.{isFeasible}
@@ -7,50 +6,66 @@ use Rattle.assignment_solver.proofs.steps.learn.Statement.{statement}
 use Rattle.assignment_solver.proofs.steps.learn.Tie as tie
 use Rattle.assignment_solver.proofs.steps.learn.Reads as reads
 use Rattle.assignment_solver.proofs.steps.learn.Lts as lts
+use Rattle.assignment_solver.proofs.bytes.known_by.Reads as known-by-reads
 use Rattle.assignment_solver.proofs.steps.found_at.Reads as found-at-reads
-use Rattle.assignment_solver.proofs.steps.with_mark.Reads as with-mark-reads
+use Rattle.input_data.proofs.flag.Reads as flag-reads
 
--- src/steps.rt:76:39
+-- src/steps.rt:81:68
 enum-told : tie.Need-enum-told
 enum-told c = search needs
 
--- src/steps.rt:76:39
-found-at-requires : tie.Need-found-at-requires
-found-at-requires c κs = let f : isFeasible (c .before .before .before .args .result) ≡ true = simp (c .enum-told .given .1) in c .before .before .before .pre f
+-- src/steps.rt:81:68
+flag-requires : tie.Need-flag-requires
+flag-requires c κs = search needs
 
--- src/steps.rt:77:41
+-- src/steps.rt:81:39
+found-at-requires : tie.Need-found-at-requires
+found-at-requires c κs = let f : isFeasible (c .before .before .before .before .before .args .result) ≡ true = simp (c .before .enum-told .given .1) in c .before .before .before .before .before .pre .1 f
+
+-- src/steps.rt:82:58
 enum-told-2 : tie.Need-enum-told-2
 enum-told-2 c = search needs
 
--- src/steps.rt:78:41
+-- src/steps.rt:82:58
+flag-requires-2 : tie.Need-flag-requires-2
+flag-requires-2 c κs = search needs
+
+-- src/steps.rt:82:41
+known-by-requires : tie.Need-known-by-requires
+known-by-requires c κs = search needs
+
+-- src/steps.rt:83:41
 enum-told-3 : tie.Need-enum-told-3
 enum-told-3 c = search needs
 
--- src/steps.rt:78:41
-with-mark-requires : tie.Need-with-mark-requires
-with-mark-requires c κs = search needs
+-- src/steps.rt:83:41
+known-by-requires-2 : tie.Need-known-by-requires-2
+known-by-requires-2 c κs = search needs
 
--- src/steps.rt:65:1
+-- src/steps.rt:70:1
 returns : tie.Need-returns
-returns c = simp (c .before .enum-told .given .1) (c .found-at .ensures)
+returns c = simp (c .before .before .enum-told .given .1) (rw (c .before .flag .ensures) at (c .found-at .ensures))
 
--- src/steps.rt:65:1
+-- src/steps.rt:70:1
 returns-2 : tie.Need-returns-2
-returns-2 c = simp (c .enum-told2 .given .1)
+returns-2 c = simp (c .before .before .enum-told2 .given .1) (rw (c .before .flag2 .ensures) at (c .known-by .ensures))
 
--- src/steps.rt:65:1
+-- src/steps.rt:70:1
 returns-3 : tie.Need-returns-3
-returns-3 c = simp (c .before .enum-told3 .given .1) (c .with-mark .ensures)
+returns-3 c = simp (c .before .enum-told3 .given .1) (c .known-by2 .ensures)
 
 pub learn-spec : {M : Type 1} → statement M
 learn-spec =
     tie.close
     (tie.spec
     enum-told
+    flag-requires
     found-at-requires
     enum-told-2
+    flag-requires-2
+    known-by-requires
     enum-told-3
-    with-mark-requires
+    known-by-requires-2
     returns
     returns-2
     returns-3)

@@ -1,4 +1,3 @@
-use borrow.Author.Needs.{needs}
 use mathlib.Core.Path.{_≡_}
 use mathlib.Core.Bool.{true}
 use Rattle.assignment_solver.specs.Search.{isFeasible}
@@ -9,51 +8,42 @@ use Rattle.assignment_solver.proofs.steps.learn_greedy.Reads as reads
 use Rattle.assignment_solver.proofs.steps.learn_greedy.Lts as lts
 use Rattle.assignment_solver.proofs.steps.found_at.Reads as found-at-reads
 use Rattle.assignment_solver.proofs.steps.nothing_known.Reads as nothing-known-reads
-use Rattle.assignment_solver.proofs.steps.with_mark.Reads as with-mark-reads
 
--- src/steps.rt:88:39
+-- src/steps.rt:93:39
 enum-told : tie.Need-enum-told
 enum-told c = search needs
 
--- src/steps.rt:88:39
+-- src/steps.rt:93:39
 found-at-requires : tie.Need-found-at-requires
 found-at-requires c κs = let f : isFeasible (c .before .before .before .args .result) ≡ true = simp (c .enum-told .given .1) in c .before .before .before .pre f
 
--- src/steps.rt:89:50
+-- src/steps.rt:94:41
 enum-told-2 : tie.Need-enum-told-2
 enum-told-2 c = search needs
 
--- src/steps.rt:89:50
+-- src/steps.rt:94:41
 nothing-known-requires : tie.Need-nothing-known-requires
 nothing-known-requires c κs = search needs
 
--- src/steps.rt:89:41
-with-mark-requires : tie.Need-with-mark-requires
-with-mark-requires c κs = search needs
-
--- src/steps.rt:90:50
+-- src/steps.rt:95:41
 enum-told-3 : tie.Need-enum-told-3
 enum-told-3 c = search needs
 
--- src/steps.rt:90:50
+-- src/steps.rt:95:41
 nothing-known-requires-2 : tie.Need-nothing-known-requires-2
 nothing-known-requires-2 c κs = search needs
 
--- src/steps.rt:90:41
-with-mark-requires-2 : tie.Need-with-mark-requires-2
-with-mark-requires-2 c κs = search needs
-
--- src/steps.rt:83:1
+-- src/steps.rt:88:1
 returns : tie.Need-returns
 returns c = simp (c .before .enum-told .given .1) (c .found-at .ensures)
 
--- src/steps.rt:83:1
+-- src/steps.rt:88:1
 returns-2 : tie.Need-returns-2
-returns-2 c = simp (c .before .before .enum-told2 .given .1) (rw (c .before .nothing-known .ensures) at (c .with-mark .ensures))
+returns-2 c = simp (c .before .enum-told2 .given .1) (c .nothing-known .ensures)
 
--- src/steps.rt:83:1
+-- src/steps.rt:88:1
 returns-3 : tie.Need-returns-3
-returns-3 c = simp (c .before .before .enum-told3 .given .1) (rw (c .before .nothing-known2 .ensures) at (c .with-mark2 .ensures))
+returns-3 c = simp (c .before .enum-told3 .given .1) (c .nothing-known2 .ensures)
 
 pub learn-greedy-spec : {M : Type 1} → statement M
 learn-greedy-spec =
@@ -63,10 +53,8 @@ learn-greedy-spec =
     found-at-requires
     enum-told-2
     nothing-known-requires
-    with-mark-requires
     enum-told-3
     nothing-known-requires-2
-    with-mark-requires-2
     returns
     returns-2
     returns-3)

@@ -1,25 +1,31 @@
-use mathlib.Core.Path.{_≡_, sym}
-use Prim.Native.Nat.{_≤_, _-_}
+use mathlib.Core.Path.{_≡_, sym, ap, _∙_}
+use mathlib.Core.Bool.{false, _||_}
+use Prim.Native.Nat.{_≤_, _-_, min}
 use native.Mathlib.Omega.{arith}
 use borrow.Author.Needs.{needs}
-use Rattle.counting.specs.Fold.{anyTo, fold-none, fold-more}
-use Rattle.counting.specs.Tests.{faultBelow, someBelow}
+use lib.Dec.{ltb}
+use Rattle.counting.specs.Fold.{anyTo, fold-none}
+use Rattle.counting.specs.Tests.{any-more, places-all}
 use Rattle.input_data.specs.Checks.{badMember}
+use Rattle.input_data.specs.Bytes.{dayOf}
 use Rattle.input_data.proofs.checks.bad_members.Statement.{statement}
 use Rattle.input_data.proofs.checks.bad_members.Tie as tie
 
 abbrev Inv-loop : tie.InvT-loop
-Inv-loop choices count members most bad₀ i₀ bad i = (i ≤ 32) × (bad ≡ anyTo i (faultBelow count (badMember choices members)))
+Inv-loop choices count day most bad₀ i₀ bad i = (i ≤ most) × (most ≡ min count 32) × (bad ≡ anyTo i (badMember choices (dayOf day .members)))
 
 abbrev μ-loop : tie.MeasureT-loop
-μ-loop choices count members most bad₀ i₀ bad i = 32 - i
+μ-loop choices count day most bad₀ i₀ bad i = most - i
 
 loop-again : tie.Need-loop-again Inv-loop μ-loop
-loop-again c = (search needs, simp (fold-more, c .bad-member .ensures, c .before .before .before .loop .inv .1))
+loop-again c = let v = c .before .before .before .loop .inv in (omega arith, v .1, any-more _ _ (v .2) (rw (c .before .member-at .ensures) at (c .bad-member .ensures)))
 
 returns : tie.Need-returns Inv-loop μ-loop
-unfolding someBelow
-returns c = let e : c .before .loop .i ≡ 32 = omega arith in rw (c .before .loop .inv .1, e)
+returns c =
+    let v = c .before .loop .inv in
+    let a = c .before .before .before .before .args in
+    let e : c .before .loop .i ≡ min (a .count) 32 = omega arith in
+    ap (λ b. ltb 32 (a .count) || b) (v .2 ∙ ap (λ k. anyTo k (badMember (a .choices) (dayOf (a .day .now) .members))) e ∙ places-all 32 (a .count) _)
 
 pub bad-members-spec : {M : Type 1} → statement M
 bad-members-spec =
@@ -27,9 +33,9 @@ bad-members-spec =
     (tie.spec
     Inv-loop
     μ-loop
-    (λ c. (search needs, sym (fold-none _ _ _)))
-    (λ c. search needs)
-    (λ c. search needs)
+    (λ c κs. search needs)
+    (λ c. (omega arith, c .at-most .ensures, sym (fold-none _||_ false _)))
+    (λ c κs. search needs)
     (λ c κs. search needs)
     (λ c. search needs)
     (λ c. search needs)

@@ -5,56 +5,24 @@ use native.Mathlib.Omega.{arith}
 use borrow.Author.Needs.{needs}
 use Rattle.counting.specs.Fold.{anyTo, fold-none}
 use Rattle.counting.specs.Tests.{any-more}
-use Rattle.input_data.specs.Places.{places-all}
+use Rattle.counting.specs.Tests.{places-all}
 use Rattle.input_data.specs.Checks.{badKindAt}
+use Rattle.input_data.specs.Bytes.{listIn}
+use Rattle.input_data.specs.BytesLaws.{numbers-of, count-of}
 use Rattle.input_data.proofs.constraints.bad_kinds.Statement.{statement}
 use Rattle.input_data.proofs.constraints.bad_kinds.Tie as tie
-use Rattle.input_data.proofs.constraints.bad_kinds.Reads as reads
-use Rattle.input_data.proofs.constraints.bad_kinds.Lts as lts
-use Rattle.input_data.proofs.constraints.bad_kind.Reads as bad-kind-reads
-use Rattle.input_data.proofs.constraints.places.Reads as places-reads
 
 abbrev Inv-loop : tie.InvT-loop
-Inv-loop least most list n bad₀ i₀ bad i = (i ≤ n) × (n ≡ min (list .count) 32) × (bad ≡ anyTo i (badKindAt least most list))
+Inv-loop least most day at count n bad₀ i₀ bad i = (i ≤ n) × (n ≡ min count 32) × (bad ≡ anyTo i (badKindAt least most (listIn day count at)))
 
 abbrev μ-loop : tie.MeasureT-loop
-μ-loop least most list n bad₀ i₀ bad i = n - i
+μ-loop least most day at count n bad₀ i₀ bad i = n - i
 
--- src/constraints.rt:48:9
-places-requires : tie.Need-places-requires Inv-loop μ-loop
-places-requires c κs = search needs
-
--- src/constraints.rt:51:5
-loop-holds : tie.Need-loop-holds Inv-loop μ-loop
-loop-holds c = (omega arith, c .places .ensures, sym (fold-none _||_ false _))
-
--- src/constraints.rt:52:17
-mul-c : tie.Need-mul-c Inv-loop μ-loop
-mul-c c = omega arith
-
--- src/constraints.rt:52:17
-element-copy-out-c : tie.Need-element-copy-out-c Inv-loop μ-loop
-element-copy-out-c c = omega arith
-
--- src/constraints.rt:53:21
-bad-kind-requires : tie.Need-bad-kind-requires Inv-loop μ-loop
-bad-kind-requires c κs = search needs
-
--- src/constraints.rt:54:9
-add-i : tie.Need-add-i Inv-loop μ-loop
-add-i c = search needs
-
--- src/constraints.rt:51:5
-loop-less : tie.Need-loop-less Inv-loop μ-loop
-loop-less c = search needs
-
--- src/constraints.rt:51:5
 loop-again : tie.Need-loop-again Inv-loop μ-loop
-loop-again c = let v = c .before .before .before .loop .inv in (omega arith, v .1, any-more _ _ (v .2) (c .bad-kind .ensures))
+loop-again c = let v = c .before .before .before .loop .inv in let a = c .before .before .before .before .before .before .args in (omega arith, v .1, any-more _ _ (v .2) (rw (c .before .numbers-at .ensures ∙ sym (numbers-of _ (a .count) _ _ (omega arith))) at (c .bad-kind .ensures)))
 
--- src/constraints.rt:45:1
 returns : tie.Need-returns Inv-loop μ-loop
-returns c = let v = c .before .loop .inv in let e : c .before .loop .i ≡ min (c .before .before .before .args .t3 .count) 32 = omega arith in v .2 ∙ ap (λ k. anyTo k (badKindAt (c .before .before .before .args .least) (c .before .before .before .args .most) (c .before .before .before .args .t3))) e ∙ places-all 32 (c .before .before .before .args .t3 .count) _
+returns c = let v = c .before .loop .inv in let a = c .before .before .before .before .args in let e : c .before .loop .i ≡ min (a .count) 32 = omega arith in v .2 ∙ ap (λ k. anyTo k (badKindAt (a .least) (a .most) (listIn (a .day .now) (a .count) (a .at)))) e ∙ rw (count-of (a .day .now) (a .count) (a .at)) (places-all 32 (a .count) _)
 
 pub bad-kinds-spec : {M : Type 1} → statement M
 bad-kinds-spec =
@@ -62,12 +30,11 @@ bad-kinds-spec =
     (tie.spec
     Inv-loop
     μ-loop
-    places-requires
-    loop-holds
-    mul-c
-    element-copy-out-c
-    bad-kind-requires
-    add-i
-    loop-less
+    (λ c κs. search needs)
+    (λ c. (omega arith, c .at-most .ensures, sym (fold-none _||_ false _)))
+    (λ c κs. search needs)
+    (λ c κs. search needs)
+    (λ c. search needs)
+    (λ c. search needs)
     loop-again
     returns)

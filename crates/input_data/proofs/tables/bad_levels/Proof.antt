@@ -1,35 +1,40 @@
-use mathlib.Core.Path.{_≡_, sym}
-use Prim.Native.Nat.{_≤_, _-_}
+use mathlib.Core.Path.{_∙_}
+use Prim.Native.Nat.{_-_}
 use native.Mathlib.Omega.{arith}
-use borrow.Author.Needs.{needs}
 use lib.ListN.{length}
-use Rattle.counting.specs.Fold.{anyTo, fold-none, fold-more}
-use Rattle.input_data.specs.Checks.{badLevelAt, badLevels}
+use Rattle.input_data.specs.Levels.{levels-by-last, no-levels}
+use borrow.Author.Needs.{needs}
 use Rattle.input_data.proofs.tables.bad_levels.Statement.{statement}
 use Rattle.input_data.proofs.tables.bad_levels.Tie as tie
+use Rattle.input_data.proofs.tables.bad_levels.Reads as reads
+use Rattle.input_data.proofs.tables.bad_levels.Lts as lts
+use Rattle.input_data.proofs.tables.descends.Reads as descends-reads
 
-abbrev Inv-loop : tie.InvT-loop
-Inv-loop most levels bad₀ i₀ bad i = (i ≤ length levels) × (bad ≡ anyTo i (badLevelAt most levels))
+-- src/lib.rt:27:9
+returns : tie.Need-returns
+returns c = no-levels (c .before .before .args .most) (c .before .before .args .levels .now) (omega arith)
 
-abbrev μ-loop : tie.MeasureT-loop
-μ-loop most levels bad₀ i₀ bad i = length levels - i
+-- src/lib.rt:29:13
+sub-n : tie.Need-sub-n
+sub-n c = search needs
 
-loop-again : tie.Need-loop-again Inv-loop μ-loop
-loop-again c = (search needs, simp (fold-more, c .bad-level .ensures, c .before .before .loop .inv .1))
+-- src/lib.rt:30:25
+mul-result : tie.Need-mul-result
+mul-result c = search needs
 
-returns : tie.Need-returns Inv-loop μ-loop
-unfolding badLevels
-returns c = let e : c .before .loop .i ≡ length (c .before .before .before .args .levels .now) = omega arith in rw (c .before .loop .inv .1, e)
+-- src/lib.rt:30:25
+shared-slice-read-result : tie.Need-shared-slice-read-result
+shared-slice-read-result c = search needs
+
+-- src/lib.rt:30:38
+descends-requires : tie.Need-descends-requires
+descends-requires c κs = search needs
+
+-- src/lib.rt:23:1
+returns-2 : tie.Need-returns-2
+returns-2 c = let a = c .before .before .before .before .args in rw (c .descends .ensures) (levels-by-last (a .most) (a .levels .now) (length (a .levels .now) - 1) (omega arith))
 
 pub bad-levels-spec : {M : Type 1} → statement M
 bad-levels-spec =
     tie.close
-    (tie.spec
-    Inv-loop
-    μ-loop
-    (λ c. (search needs, sym (fold-none _ _ _)))
-    (λ c κs. search needs)
-    (λ c. search needs)
-    (λ c. search needs)
-    loop-again
-    returns)
+    (tie.spec returns sub-n mul-result shared-slice-read-result descends-requires returns-2)

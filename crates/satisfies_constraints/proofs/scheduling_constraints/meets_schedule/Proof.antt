@@ -67,7 +67,7 @@ returns-5 c = simp (ne-eqb _ _ (c .before .before .before .before .before .if1 .
 
 -- src/scheduling_constraints.rt:118:21
 size-of-requires : tie.Need-size-of-requires
-size-of-requires c κs = search needs
+size-of-requires c κs = (c .before .before .before .before .before .before .before .pre .0, c .before .before .before .before .before .before .before .pre .2 (c .before .before .before .before .if1 .left) (c .before .before .before .if2 .left) (c .before .before .if3 .left) (c .before .if4 .left) (c .if5 .left))
 
 -- src/scheduling_constraints.rt:118:5
 has-size-requires : tie.Need-has-size-requires

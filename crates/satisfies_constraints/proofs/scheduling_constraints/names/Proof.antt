@@ -4,22 +4,27 @@ use Rattle.satisfies_constraints.proofs.scheduling_constraints.names.St
 use Rattle.satisfies_constraints.proofs.scheduling_constraints.names.Tie as tie
 use Rattle.satisfies_constraints.proofs.scheduling_constraints.names.Reads as reads
 use Rattle.satisfies_constraints.proofs.scheduling_constraints.names.Lts as lts
+use Rattle.scheduling.proofs.slot_in.Reads as slot-in-reads
 
--- src/scheduling_constraints.rt:27:9
+-- src/scheduling_constraints.rt:31:9
+slot-in-requires : tie.Need-slot-in-requires
+slot-in-requires c κs = search needs
+
+-- src/scheduling_constraints.rt:33:25
+enum-told : tie.Need-enum-told
+enum-told c = search needs
+
+-- src/scheduling_constraints.rt:34:22
+enum-known-named : tie.Need-enum-known-named
+enum-known-named c = search needs
+
+-- src/scheduling_constraints.rt:28:1
 returns : tie.Need-returns
-returns c = names-none _ _ (c .if1 .taken)
+returns c = names-none (c .before .before .before .args .entry) (c .before .before .before .args .slot) (c .before .before .slot-in .ensures) (c .enum-told .given .1)
 
--- src/scheduling_constraints.rt:29:6
-sub-result : tie.Need-sub-result
-sub-result c = search needs
-
--- src/scheduling_constraints.rt:29:5
-cast-result : tie.Need-cast-result
-cast-result c = search needs
-
--- src/scheduling_constraints.rt:23:1
+-- src/scheduling_constraints.rt:28:1
 returns-2 : tie.Need-returns-2
-returns-2 c = names-slot _ _ (c .if1 .left)
+returns-2 c = names-slot (c .before .before .before .before .args .entry) (c .before .before .before .before .args .slot) _ (c .before .before .before .slot-in .ensures) (c .before .named .given .1)
 
 pub names-spec : {M : Type 1} → statement M
-names-spec = tie.close (tie.spec returns sub-result cast-result returns-2)
+names-spec = tie.close (tie.spec slot-in-requires enum-told enum-known-named returns returns-2)

@@ -1,5 +1,4 @@
 use native.Mathlib.Omega.{arith}
-use borrow.Author.Needs.{needs}
 use Rattle.schedule_state.specs.Blocks.{by-is-in, by-unscheduled, by-is-not-in, by-other}
 use Rattle.schedule_state.proofs.blocks.block_by.Statement.{statement}
 use Rattle.schedule_state.proofs.blocks.block_by.Tie as tie

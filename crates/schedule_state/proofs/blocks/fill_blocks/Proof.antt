@@ -1,56 +1,60 @@
-use mathlib.Core.Path.{_≡_, refl}
-use Prim.Native.Nat.{_≤_, _-_}
 use native.Mathlib.Omega.{arith}
 use borrow.Author.Needs.{needs}
-use Rattle.schedule_state.specs.Blocks.{Blocks, blockedTo, blocks-none, blocks-more, blocks-all, blockable}
+use mathlib.Core.Path.{_≡_, ap, _∙_}
+use Prim.Native.Nat.{_≤_, _-_}
+use Rattle.input_data.specs.Bytes.{dayOf}
+use Rattle.input_data.specs.Day.{constraintOfNumbers}
+use Rattle.schedule_state.specs.Blocks.{Blocks, blockedTo, blocks-none, blocks-more, blocks-all, blockable, constraint-in}
 use Rattle.schedule_state.proofs.blocks.fill_blocks.Statement.{statement}
 use Rattle.schedule_state.proofs.blocks.fill_blocks.Tie as tie
 use Rattle.schedule_state.proofs.blocks.fill_blocks.Reads as reads
 use Rattle.schedule_state.proofs.blocks.fill_blocks.Lts as lts
 use Rattle.input_data.proofs.ConstraintNumbers.constraint.Reads as constraint-reads
+use Rattle.input_data.proofs.assignment_count.Reads as assignment-count-reads
+use Rattle.input_data.proofs.numbers_at.Reads as numbers-at-reads
 use Rattle.schedule_state.proofs.blocks.block_constraint.Reads as block-constraint-reads
 
 abbrev Inv-loop : tie.InvT-loop
-Inv-loop blocks₀ entries list count j₀ blocks j = (j ≤ list .count) × (count ≡ list .count) × Blocks (blockedTo list entries j) blocks
+Inv-loop blocks₀ day entries count j₀ blocks j = (j ≤ count) × (count ≡ dayOf day .assignment .count) × Blocks (blockedTo (dayOf day .assignment) entries j) blocks
 
 abbrev μ-loop : tie.MeasureT-loop
-μ-loop blocks₀ entries list count j₀ blocks j = count - j
+μ-loop blocks₀ day entries count j₀ blocks j = count - j
 
--- src/blocks.rt:61:5
+-- src/blocks.rt:60:9
+assignment-count-requires : tie.Need-assignment-count-requires Inv-loop μ-loop
+assignment-count-requires c κs = search needs
+
+-- src/blocks.rt:62:5
 loop-holds : tie.Need-loop-holds Inv-loop μ-loop
-loop-holds c = (omega arith, refl, blocks-none (c .args .t2) (c .args .entries .now) (c .args .blocks .now) (c .pre .long) (c .pre .none))
+loop-holds c = let a = c .before .before .args in (omega arith, c .assignment-count .ensures, blocks-none (dayOf (a .day .now) .assignment) (a .entries .now) (a .blocks .now) (c .before .before .pre .1 .long) (c .before .before .pre .1 .none))
 
--- src/blocks.rt:62:17
-mul-c : tie.Need-mul-c Inv-loop μ-loop
-mul-c c = search needs
+-- src/blocks.rt:63:13
+numbers-at-requires : tie.Need-numbers-at-requires Inv-loop μ-loop
+numbers-at-requires c κs = (omega (arith, c .before .before .before .before .pre .0), omega (arith, c .before .before .before .before .pre .1 .blocking .count))
 
--- src/blocks.rt:62:17
-element-copy-out-c : tie.Need-element-copy-out-c Inv-loop μ-loop
-element-copy-out-c c = search needs
-
--- src/blocks.rt:63:43
+-- src/blocks.rt:64:43
 constraint-requires : tie.Need-constraint-requires Inv-loop μ-loop
 constraint-requires c κs = search needs
 
--- src/blocks.rt:63:9
-block-constraint-requires : tie.Need-block-constraint-requires Inv-loop μ-loop
-block-constraint-requires c κs = rw (c .constraint .ensures) (blockable (c .before .before .before .before .before .pre .blocking) (c .before .before .before .before .loop .j) (omega arith) _ (c .before .before .before .before .loop .inv .2 .long))
-
 -- src/blocks.rt:64:9
+block-constraint-requires : tie.Need-block-constraint-requires Inv-loop μ-loop
+block-constraint-requires c κs = let b = c .before .before .before .before .before .before .before .args .day .now in let j = c .before .before .before .before .loop .j in rw (c .constraint .ensures ∙ ap constraintOfNumbers (c .before .before .numbers-at .ensures) ∙ constraint-in b j (omega (arith, c .before .before .before .before .before .before .before .pre .1 .blocking .count))) (blockable (c .before .before .before .before .before .before .before .pre .1 .blocking) j (omega arith) _ (c .before .before .before .before .loop .inv .2 .long))
+
+-- src/blocks.rt:65:9
 add-j : tie.Need-add-j Inv-loop μ-loop
 add-j c = search needs
 
--- src/blocks.rt:61:5
+-- src/blocks.rt:62:5
 loop-less : tie.Need-loop-less Inv-loop μ-loop
 loop-less c = search needs
 
--- src/blocks.rt:61:5
+-- src/blocks.rt:62:5
 loop-again : tie.Need-loop-again Inv-loop μ-loop
-loop-again c = let v = c .before .before .before .before .before .loop .inv in (omega arith, v .1, blocks-more (c .before .before .before .before .before .before .args .t2) (c .before .before .before .before .before .before .args .entries .now) (c .before .before .before .before .before .loop .j) (v .2) (rw (c .before .constraint .ensures) at (c .block-constraint .ensures)))
+loop-again c = let v = c .before .before .before .before .before .loop .inv in let a = c .before .before .before .before .before .before .before .before .args in let j = c .before .before .before .before .before .loop .j in (omega arith, v .1, blocks-more (dayOf (a .day .now) .assignment) (a .entries .now) j (v .2) (rw (c .before .constraint .ensures ∙ ap constraintOfNumbers (c .before .before .before .numbers-at .ensures) ∙ constraint-in (a .day .now) j (omega (arith, c .before .before .before .before .before .before .before .before .pre .1 .blocking .count))) at (c .block-constraint .ensures)))
 
--- src/blocks.rt:55:1
+-- src/blocks.rt:56:1
 returns : tie.Need-returns Inv-loop μ-loop
-returns c = let v = c .before .loop .inv in blocks-all (c .before .before .args .t2) (c .before .before .args .entries .now) (c .before .loop .j) (c .before .before .pre .blocking .count) (omega arith) (v .2)
+returns c = let v = c .before .loop .inv in let a = c .before .before .before .before .args in blocks-all (dayOf (a .day .now) .assignment) (a .entries .now) (c .before .loop .j) (c .before .before .before .before .pre .1 .blocking .count) (omega arith) (v .2)
 
 pub fill-blocks-spec : {M : Type 1} → statement M
 fill-blocks-spec =
@@ -58,9 +62,9 @@ fill-blocks-spec =
     (tie.spec
     Inv-loop
     μ-loop
+    assignment-count-requires
     loop-holds
-    mul-c
-    element-copy-out-c
+    numbers-at-requires
     constraint-requires
     block-constraint-requires
     add-j

@@ -1,62 +1,68 @@
-use mathlib.Core.Path.{_≡_, refl, sym}
-use mathlib.Core.Bool.{false, _||_}
-use Prim.Native.Nat.{_≤_, _*_, _-_}
 use native.Mathlib.Omega.{arith}
 use borrow.Author.Needs.{needs}
+use mathlib.Core.Path.{_≡_, refl, sym, _∙_}
+use mathlib.Core.Bool.{false, _||_}
+use Prim.Native.Nat.{_≤_, _*_, _-_}
 use Rattle.counting.specs.Fold.{anyTo, fold-none}
 use Rattle.counting.specs.Tests.{any-more}
+use Rattle.schedule_state.specs.Bytes.{stateIn, block-in}
 use Rattle.schedule_state.specs.State.{cellsOf, misblockedAt}
 use Rattle.schedule_state.proofs.checks.row_differs.Statement.{statement}
 use Rattle.schedule_state.proofs.checks.row_differs.Tie as tie
 use Rattle.schedule_state.proofs.checks.row_differs.Reads as reads
 use Rattle.schedule_state.proofs.checks.row_differs.Lts as lts
+use Rattle.input_data.proofs.flag.Reads as flag-reads
 use Rattle.schedule_state.proofs.checks.is_unlike.Reads as is-unlike-reads
 
 abbrev Inv-loop : tie.InvT-loop
-Inv-loop blocks right chooser choices base bad₀ k₀ bad k = (k ≤ choices) × (base ≡ 32 * chooser) × (bad ≡ anyTo k (misblockedAt (cellsOf right) blocks chooser))
+Inv-loop state right chooser choices base bad₀ k₀ bad k = (k ≤ choices) × (base ≡ 32 * chooser) × (bad ≡ anyTo k (misblockedAt (cellsOf right) (stateIn state .blocks) chooser))
 
 abbrev μ-loop : tie.MeasureT-loop
-μ-loop blocks right chooser choices base bad₀ k₀ bad k = choices - k
+μ-loop state right chooser choices base bad₀ k₀ bad k = choices - k
 
--- src/checks.rt:22:16
+-- src/checks.rt:27:16
 mul-base : tie.Need-mul-base Inv-loop μ-loop
-mul-base c = omega arith
+mul-base c = search needs
 
--- src/checks.rt:25:5
+-- src/checks.rt:30:5
 loop-holds : tie.Need-loop-holds Inv-loop μ-loop
 loop-holds c = (omega arith, refl, sym (fold-none _||_ false _))
 
--- src/checks.rt:26:18
+-- src/checks.rt:31:18
 add-at : tie.Need-add-at Inv-loop μ-loop
-add-at c = omega arith
+add-at c = search needs
 
--- src/checks.rt:27:31
+-- src/checks.rt:32:43
+add-flag : tie.Need-add-flag Inv-loop μ-loop
+add-flag c = search needs
+
+-- src/checks.rt:32:31
+flag-requires : tie.Need-flag-requires Inv-loop μ-loop
+flag-requires c κs = search needs
+
+-- src/checks.rt:32:53
 element-copy-out-is-unlike : tie.Need-element-copy-out-is-unlike Inv-loop μ-loop
-element-copy-out-is-unlike c = omega arith
+element-copy-out-is-unlike c = search needs
 
--- src/checks.rt:27:43
-element-copy-out-is-unlike-2 : tie.Need-element-copy-out-is-unlike-2 Inv-loop μ-loop
-element-copy-out-is-unlike-2 c = omega arith
-
--- src/checks.rt:27:21
+-- src/checks.rt:32:21
 is-unlike-requires : tie.Need-is-unlike-requires Inv-loop μ-loop
 is-unlike-requires c κs = search needs
 
--- src/checks.rt:28:9
+-- src/checks.rt:33:9
 add-k : tie.Need-add-k Inv-loop μ-loop
 add-k c = search needs
 
--- src/checks.rt:25:5
+-- src/checks.rt:30:5
 loop-less : tie.Need-loop-less Inv-loop μ-loop
 loop-less c = search needs
 
--- src/checks.rt:25:5
+-- src/checks.rt:30:5
 loop-again : tie.Need-loop-again Inv-loop μ-loop
-loop-again c = let v = c .before .before .before .before .loop .inv in (omega arith, v .1, any-more _ _ (v .2) (rw (v .1) at (c .is-unlike .ensures)))
+loop-again c = let v = c .before .before .before .before .loop .inv in (omega arith, v .1, any-more _ _ (v .2) (rw (c .before .before .flag .ensures ∙ sym (block-in (c .before .before .before .before .before .before .args .state .now) _ (omega arith)), v .1) at (c .is-unlike .ensures)))
 
--- src/checks.rt:13:1
+-- src/checks.rt:23:1
 returns : tie.Need-returns Inv-loop μ-loop
-returns c = let e : c .before .loop .k ≡ c .before .before .args .choices = omega arith in rw e at (c .before .loop .inv .2)
+returns c = let e : c .before .loop .k ≡ c .before .before .before .args .choices = omega arith in rw e at (c .before .loop .inv .2)
 
 pub row-differs-spec : {M : Type 1} → statement M
 row-differs-spec =
@@ -67,8 +73,9 @@ row-differs-spec =
     mul-base
     loop-holds
     add-at
+    add-flag
+    flag-requires
     element-copy-out-is-unlike
-    element-copy-out-is-unlike-2
     is-unlike-requires
     add-k
     loop-less

@@ -1,10 +1,10 @@
-use Rattle.schedule_state.specs.Good.{full-within}
+use Rattle.input_data.specs.Numbers.{full-within}
 use borrow.Author.Needs.{needs}
 use Rattle.scoring.proofs.evaluating.evaluate.Statement.{statement}
 use Rattle.scoring.proofs.evaluating.evaluate.Tie as tie
 use Rattle.scoring.proofs.evaluating.evaluate.Reads as reads
 use Rattle.scoring.proofs.evaluating.evaluate.Lts as lts
-use Rattle.schedule_state.proofs.full_day.Reads as full-day-reads
+use Rattle.input_data.proofs.full_day.Reads as full-day-reads
 use Rattle.scoring.proofs.evaluating.evaluate_within.Reads as evaluate-within-reads
 
 -- src/evaluating.rt:215:9

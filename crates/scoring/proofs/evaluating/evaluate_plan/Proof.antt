@@ -9,24 +9,24 @@ use Rattle.score.proofs.Score.infinite.Reads as infinite-reads
 use Rattle.scoring.proofs.evaluating.score_of.Reads as score-of-reads
 use Rattle.scoring.proofs.plan.plan_holds.Reads as plan-holds-reads
 
--- src/evaluating.rt:98:8
+-- src/evaluating.rt:92:8
 plan-holds-requires : tie.Need-plan-holds-requires
-plan-holds-requires c κs = c .before .before .before .pre .0
+plan-holds-requires c κs = search needs
 
--- src/evaluating.rt:99:9
+-- src/evaluating.rt:93:9
 score-of-requires : tie.Need-score-of-requires
-score-of-requires c κs = c .before .before .before .before .before .pre .1
+score-of-requires c κs = search needs
 
--- src/evaluating.rt:99:9
+-- src/evaluating.rt:93:9
 returns : tie.Need-returns
 unfolding evaluated
 returns c = rw (so (c .before .before .plan-holds .ensures) (c .before .if1 .taken)) (c .score-of .ensures)
 
--- src/evaluating.rt:101:5
+-- src/evaluating.rt:95:5
 infinite-requires : tie.Need-infinite-requires
 infinite-requires c κs = search needs
 
--- src/evaluating.rt:87:1
+-- src/evaluating.rt:81:1
 returns-2 : tie.Need-returns-2
 unfolding evaluated
 returns-2 c = rw (so (c .before .before .plan-holds .ensures) (c .before .if1 .left)) (c .infinite .ensures)

@@ -1,10 +1,10 @@
-use Rattle.schedule_state.specs.Good.{full-within}
+use Rattle.input_data.specs.Numbers.{full-within}
 use borrow.Author.Needs.{needs}
 use Rattle.scoring.proofs.plan.is_feasible.Statement.{statement}
 use Rattle.scoring.proofs.plan.is_feasible.Tie as tie
 use Rattle.scoring.proofs.plan.is_feasible.Reads as reads
 use Rattle.scoring.proofs.plan.is_feasible.Lts as lts
-use Rattle.schedule_state.proofs.full_day.Reads as full-day-reads
+use Rattle.input_data.proofs.full_day.Reads as full-day-reads
 use Rattle.scoring.proofs.plan.plan_within.Reads as plan-within-reads
 
 -- src/plan.rt:92:17

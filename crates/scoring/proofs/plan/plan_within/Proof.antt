@@ -1,47 +1,53 @@
-use Rattle.counting.specs.Tests.{so}
 use Rattle.scoring.specs.Feasible.{planFeasible}
-use Rattle.schedule_state.specs.State.{keptOf}
-use Rattle.scoring.specs.Calls.{verdictNumber, planAnswer}
-use Rattle.scoring.specs.Laws.{verdict-accepted, verdict-refused, verdict-done}
+use Rattle.counting.specs.Tests.{so}
+use Rattle.input_data.specs.Bytes.{dayOf, lentNumber}
+use Rattle.scheduling.specs.Handed.{scheduleOf, notSchedule, keptOf}
+use Rattle.scoring.specs.Calls.{verdictNumber, planLent}
+use Rattle.scoring.specs.Laws.{verdict-lent, verdict-refused, verdict-done}
 use borrow.Author.Needs.{needs}
 use Rattle.scoring.proofs.plan.plan_within.Statement.{statement}
 use Rattle.scoring.proofs.plan.plan_within.Tie as tie
 use Rattle.scoring.proofs.plan.plan_within.Reads as reads
 use Rattle.scoring.proofs.plan.plan_within.Lts as lts
+use Rattle.input_data.proofs.choices.Reads as choices-reads
 use Rattle.scheduling.proofs.kept.Reads as kept-reads
 use Rattle.scoring.proofs.numbers.answer.Reads as answer-reads
 use Rattle.scoring.proofs.numbers.verdict_number.Reads as verdict-number-reads
 use Rattle.scoring.proofs.plan.plan_holds.Reads as plan-holds-reads
 
--- src/plan.rt:80:9
+-- src/plan.rt:77:9
 verdict-number-requires : tie.Need-verdict-number-requires
 verdict-number-requires c κs = search needs
 
--- src/plan.rt:82:9
+-- src/plan.rt:79:9
 answer-requires : tie.Need-answer-requires
 answer-requires c κs = search needs
 
--- src/plan.rt:82:9
+-- src/plan.rt:79:9
 returns : tie.Need-returns
-unfolding planAnswer
-returns c = let a = c .before .before .before .before .args in verdict-refused (verdictNumber (a .limits) (a .day) (a .t3) (a .plan .now)) (planFeasible (a .day) (keptOf (a .day) (a .t3)) (a .plan .now)) (c .before .before .verdict-number .ensures) (c .before .if1 .taken) (c .answer .ensures)
+unfolding planLent
+returns c = let a = c .before .before .before .before .before .before .args in verdict-refused (lentNumber (a .limits) (a .day .now) (notSchedule (a .schedule .now)) (verdictNumber (a .limits) (dayOf (a .day .now)) (scheduleOf (a .schedule .now)) (a .plan .now))) (planFeasible (dayOf (a .day .now)) (keptOf (dayOf (a .day .now)) (scheduleOf (a .schedule .now))) (a .plan .now)) (c .before .before .verdict-number .ensures) (c .before .if1 .taken) (c .answer .ensures)
 
--- src/plan.rt:84:19
+-- src/plan.rt:81:36
+choices-requires : tie.Need-choices-requires
+choices-requires c κs = verdict-lent (c .before .before .before .before .before .args .limits) (c .before .before .before .before .before .args .day .now) (c .before .before .before .before .before .args .schedule .now) (c .before .before .before .before .before .args .plan .now) (c .before .before .before .before .before .pre) (so (c .before .verdict-number .ensures) (c .if1 .left)) .long
+
+-- src/plan.rt:81:19
 kept-requires : tie.Need-kept-requires
-kept-requires c κs = search needs
+kept-requires c κs = verdict-lent (c .before .before .before .before .before .before .args .limits) (c .before .before .before .before .before .before .args .day .now) (c .before .before .before .before .before .before .args .schedule .now) (c .before .before .before .before .before .before .args .plan .now) (c .before .before .before .before .before .before .pre) (so (c .before .before .verdict-number .ensures) (c .before .if1 .left)) .entries
 
--- src/plan.rt:85:15
+-- src/plan.rt:82:15
 plan-holds-requires : tie.Need-plan-holds-requires
-plan-holds-requires c κs = let a = c .before .before .before .before .before .before .before .args in rw (c .before .kept .ensures) (verdict-accepted (a .limits) (a .day) (a .t3) (a .plan .now) (c .before .before .before .before .before .before .before .pre) (so (c .before .before .before .before .before .verdict-number .ensures) (c .before .before .before .before .if1 .left)))
+plan-holds-requires c κs = let p = verdict-lent (c .before .before .before .before .before .before .before .before .args .limits) (c .before .before .before .before .before .before .before .before .args .day .now) (c .before .before .before .before .before .before .before .before .args .schedule .now) (c .before .before .before .before .before .before .before .before .args .plan .now) (c .before .before .before .before .before .before .before .before .pre) (so (c .before .before .before .before .verdict-number .ensures) (c .before .before .before .if1 .left)) in rw (c .before .kept .ensures, c .before .before .choices .ensures) (p .long, p .judged)
 
--- src/plan.rt:85:5
+-- src/plan.rt:82:5
 answer-requires-2 : tie.Need-answer-requires-2
 answer-requires-2 c κs = search needs
 
--- src/plan.rt:71:1
+-- src/plan.rt:73:1
 returns-2 : tie.Need-returns-2
-unfolding planAnswer
-returns-2 c = let a = c .before .before .before .before .before .before .before .before .before .args in verdict-done (verdictNumber (a .limits) (a .day) (a .t3) (a .plan .now)) (planFeasible (a .day) (keptOf (a .day) (a .t3)) (a .plan .now)) (c .before .before .before .before .before .before .before .verdict-number .ensures) (c .before .before .before .before .before .before .if1 .left) (c .answer2 .ensures) (rw (c .before .before .before .kept .ensures) at (c .before .plan-holds .ensures))
+unfolding planLent
+returns-2 c = let a = c .before .before .before .before .before .before .before .before .before .before .args in verdict-done (lentNumber (a .limits) (a .day .now) (notSchedule (a .schedule .now)) (verdictNumber (a .limits) (dayOf (a .day .now)) (scheduleOf (a .schedule .now)) (a .plan .now))) (planFeasible (dayOf (a .day .now)) (keptOf (dayOf (a .day .now)) (scheduleOf (a .schedule .now))) (a .plan .now)) (c .before .before .before .before .before .before .verdict-number .ensures) (c .before .before .before .before .before .if1 .left) (c .answer2 .ensures) (rw (c .before .before .before .kept .ensures, c .before .before .before .before .choices .ensures) at (c .before .plan-holds .ensures))
 
 pub plan-within-spec : {M : Type 1} → statement M
 plan-within-spec =
@@ -50,6 +56,7 @@ plan-within-spec =
     verdict-number-requires
     answer-requires
     returns
+    choices-requires
     kept-requires
     plan-holds-requires
     answer-requires-2

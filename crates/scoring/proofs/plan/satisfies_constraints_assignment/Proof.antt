@@ -1,10 +1,10 @@
-use Rattle.schedule_state.specs.Good.{full-within}
+use Rattle.input_data.specs.Numbers.{full-within}
 use borrow.Author.Needs.{needs}
 use Rattle.scoring.proofs.plan.satisfies_constraints_assignment.Statement.{statement}
 use Rattle.scoring.proofs.plan.satisfies_constraints_assignment.Tie as tie
 use Rattle.scoring.proofs.plan.satisfies_constraints_assignment.Reads as reads
 use Rattle.scoring.proofs.plan.satisfies_constraints_assignment.Lts as lts
-use Rattle.schedule_state.proofs.full_day.Reads as full-day-reads
+use Rattle.input_data.proofs.full_day.Reads as full-day-reads
 use Rattle.scoring.proofs.plan.assignment_within.Reads as assignment-within-reads
 
 -- src/plan.rt:68:23

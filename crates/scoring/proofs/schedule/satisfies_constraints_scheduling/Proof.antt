@@ -1,10 +1,10 @@
-use Rattle.schedule_state.specs.Good.{full-within}
+use Rattle.input_data.specs.Numbers.{full-within}
 use borrow.Author.Needs.{needs}
 use Rattle.scoring.proofs.schedule.satisfies_constraints_scheduling.Statement.{statement}
 use Rattle.scoring.proofs.schedule.satisfies_constraints_scheduling.Tie as tie
 use Rattle.scoring.proofs.schedule.satisfies_constraints_scheduling.Reads as reads
 use Rattle.scoring.proofs.schedule.satisfies_constraints_scheduling.Lts as lts
-use Rattle.schedule_state.proofs.full_day.Reads as full-day-reads
+use Rattle.input_data.proofs.full_day.Reads as full-day-reads
 use Rattle.scoring.proofs.schedule.scheduling_within.Reads as scheduling-within-reads
 
 -- src/schedule.rt:81:23

@@ -1,10 +1,10 @@
-use Rattle.schedule_state.specs.Good.{full-within}
+use Rattle.input_data.specs.Numbers.{full-within}
 use borrow.Author.Needs.{needs}
 use Rattle.scoring.proofs.schedule.schedule_is_feasible.Statement.{statement}
 use Rattle.scoring.proofs.schedule.schedule_is_feasible.Tie as tie
 use Rattle.scoring.proofs.schedule.schedule_is_feasible.Reads as reads
 use Rattle.scoring.proofs.schedule.schedule_is_feasible.Lts as lts
-use Rattle.schedule_state.proofs.full_day.Reads as full-day-reads
+use Rattle.input_data.proofs.full_day.Reads as full-day-reads
 use Rattle.scoring.proofs.schedule.schedule_within.Reads as schedule-within-reads
 
 -- src/schedule.rt:100:21

@@ -1,47 +1,53 @@
-use Rattle.counting.specs.Tests.{so}
 use Rattle.satisfies_constraints.specs.Constraints.{schedulingMet}
-use Rattle.schedule_state.specs.State.{keptOf}
-use Rattle.scoring.specs.Calls.{scheduleNumber, schedulingAnswer}
-use Rattle.scoring.specs.Laws.{schedule-accepted, verdict-refused, verdict-done}
+use Rattle.counting.specs.Tests.{so}
+use Rattle.input_data.specs.Bytes.{dayOf, lentNumber}
+use Rattle.scheduling.specs.Handed.{scheduleOf, notSchedule, keptOf}
+use Rattle.scoring.specs.Calls.{scheduleNumber, schedulingLent}
+use Rattle.scoring.specs.Laws.{schedule-lent, verdict-refused, verdict-done}
 use borrow.Author.Needs.{needs}
 use Rattle.scoring.proofs.schedule.scheduling_within.Statement.{statement}
 use Rattle.scoring.proofs.schedule.scheduling_within.Tie as tie
 use Rattle.scoring.proofs.schedule.scheduling_within.Reads as reads
 use Rattle.scoring.proofs.schedule.scheduling_within.Lts as lts
+use Rattle.input_data.proofs.choices.Reads as choices-reads
 use Rattle.satisfies_constraints.proofs.scheduling_met.Reads as scheduling-met-reads
 use Rattle.scheduling.proofs.kept.Reads as kept-reads
 use Rattle.scoring.proofs.numbers.answer.Reads as answer-reads
 use Rattle.scoring.proofs.numbers.schedule_number.Reads as schedule-number-reads
 
--- src/schedule.rt:68:9
+-- src/schedule.rt:70:9
 schedule-number-requires : tie.Need-schedule-number-requires
 schedule-number-requires c κs = search needs
 
--- src/schedule.rt:70:9
+-- src/schedule.rt:72:9
 answer-requires : tie.Need-answer-requires
 answer-requires c κs = search needs
 
--- src/schedule.rt:70:9
+-- src/schedule.rt:72:9
 returns : tie.Need-returns
-unfolding schedulingAnswer
-returns c = let a = c .before .before .before .args in verdict-refused (scheduleNumber (a .limits) (a .day) (a .t3)) (schedulingMet (a .day) (keptOf (a .day) (a .t3))) (c .before .before .schedule-number .ensures) (c .before .if1 .taken) (c .answer .ensures)
+unfolding schedulingLent
+returns c = let a = c .before .before .before .before .before .args in verdict-refused (lentNumber (a .limits) (a .day .now) (notSchedule (a .schedule .now)) (scheduleNumber (a .limits) (dayOf (a .day .now)) (scheduleOf (a .schedule .now)))) (schedulingMet (dayOf (a .day .now)) (keptOf (dayOf (a .day .now)) (scheduleOf (a .schedule .now)))) (c .before .before .schedule-number .ensures) (c .before .if1 .taken) (c .answer .ensures)
 
--- src/schedule.rt:72:19
+-- src/schedule.rt:74:9
+choices-requires : tie.Need-choices-requires
+choices-requires c κs = schedule-lent (c .before .before .before .before .args .limits) (c .before .before .before .before .args .day .now) (c .before .before .before .before .args .schedule .now) (c .before .before .before .before .pre) (so (c .before .schedule-number .ensures) (c .if1 .left)) .long
+
+-- src/schedule.rt:75:19
 kept-requires : tie.Need-kept-requires
-kept-requires c κs = search needs
+kept-requires c κs = schedule-lent (c .before .before .before .before .before .args .limits) (c .before .before .before .before .before .args .day .now) (c .before .before .before .before .before .args .schedule .now) (c .before .before .before .before .before .pre) (so (c .before .before .schedule-number .ensures) (c .before .if1 .left)) .entries
 
--- src/schedule.rt:73:9
+-- src/schedule.rt:76:15
 scheduling-met-requires : tie.Need-scheduling-met-requires
-scheduling-met-requires c κs = let a = c .before .before .before .before .before .before .args in let p = schedule-accepted (a .limits) (a .day) (a .t3) (c .before .before .before .before .before .before .pre) (so (c .before .before .before .before .before .schedule-number .ensures) (c .before .before .before .before .if1 .left)) in rw (c .before .kept .ensures) (p .day .choices, p .long, p .count)
+scheduling-met-requires c κs = let p = schedule-lent (c .before .before .before .before .before .before .before .args .limits) (c .before .before .before .before .before .before .before .args .day .now) (c .before .before .before .before .before .before .before .args .schedule .now) (c .before .before .before .before .before .before .before .pre) (so (c .before .before .before .before .schedule-number .ensures) (c .before .before .before .if1 .left)) in let q = p .schedulable in rw (c .before .kept .ensures, c .before .before .choices .ensures) (q .day .choices, q .long, record { long = p .long; count = q .count; numbers = q .numbers })
 
--- src/schedule.rt:74:5
+-- src/schedule.rt:76:5
 answer-requires-2 : tie.Need-answer-requires-2
 answer-requires-2 c κs = search needs
 
--- src/schedule.rt:64:1
+-- src/schedule.rt:66:1
 returns-2 : tie.Need-returns-2
-unfolding schedulingAnswer schedulingMet
-returns-2 c = let a = c .before .before .before .before .before .before .before .before .args in verdict-done (scheduleNumber (a .limits) (a .day) (a .t3)) (schedulingMet (a .day) (keptOf (a .day) (a .t3))) (c .before .before .before .before .before .before .before .schedule-number .ensures) (c .before .before .before .before .before .before .if1 .left) (c .answer2 .ensures) (rw (c .before .before .before .kept .ensures) at (c .before .scheduling-met .ensures))
+unfolding schedulingLent schedulingMet
+returns-2 c = let a = c .before .before .before .before .before .before .before .before .before .args in verdict-done (lentNumber (a .limits) (a .day .now) (notSchedule (a .schedule .now)) (scheduleNumber (a .limits) (dayOf (a .day .now)) (scheduleOf (a .schedule .now)))) (schedulingMet (dayOf (a .day .now)) (keptOf (dayOf (a .day .now)) (scheduleOf (a .schedule .now)))) (c .before .before .before .before .before .before .schedule-number .ensures) (c .before .before .before .before .before .if1 .left) (c .answer2 .ensures) (rw (c .before .before .before .kept .ensures, c .before .before .before .before .choices .ensures) at (c .before .scheduling-met .ensures))
 
 pub scheduling-within-spec : {M : Type 1} → statement M
 scheduling-within-spec =
@@ -50,6 +56,7 @@ scheduling-within-spec =
     schedule-number-requires
     answer-requires
     returns
+    choices-requires
     kept-requires
     scheduling-met-requires
     answer-requires-2

@@ -1,17 +1,26 @@
-use mathlib.Core.Path.{_≡_, refl}
-use mathlib.Core.Bool.{_||_, false}
+use mathlib.Core.Path.{refl, _∙_}
 use native.Mathlib.Nat.{mul-le-mul}
 use native.Mathlib.Omega.{arith}
+use Rattle.counting.specs.Tests.{so}
+use mathlib.Core.Path.{_≡_}
+use mathlib.Core.Bool.{false, _||_}
 use lib.Dec.{ltb}
-use borrow.Author.Tests.{ltb-false}
-use Rattle.counting.specs.Tests.{so, or-split}
+use borrow.Author.Tests.{ltb-false, eqb-true, not-false}
+use Rattle.counting.specs.Tests.{or-split}
+use Rattle.input_data.specs.Bytes.{dayOf}
+use Rattle.input_data.specs.BytesLaws.{lent-short, lent-many, lent-number}
 use Rattle.plans.specs.Good.{handed-model}
-use Rattle.solve_with_limit.specs.Numbers.{number-many}
+use Rattle.schedule_state.specs.Bytes.{notState}
+use Rattle.schedule_state.specs.Calls.{stateNumber}
 use borrow.Author.Needs.{needs}
 use Rattle.solve_with_limit.proofs.number.number_with.Statement.{statement}
 use Rattle.solve_with_limit.proofs.number.number_with.Tie as tie
 use Rattle.solve_with_limit.proofs.number.number_with.Reads as reads
 use Rattle.solve_with_limit.proofs.number.number_with.Lts as lts
+use Rattle.input_data.proofs.choices.Reads as choices-reads
+use Rattle.input_data.proofs.choosers.Reads as choosers-reads
+use Rattle.input_data.proofs.max_preference.Reads as max-preference-reads
+use Rattle.input_data.proofs.slots.Reads as slots-reads
 use Rattle.input_data.proofs.too_many.Reads as too-many-reads
 use Rattle.input_data.proofs.bad_costs.Reads as bad-costs-reads
 use Rattle.input_data.proofs.bad_preferences.Reads as bad-preferences-reads
@@ -19,57 +28,90 @@ use Rattle.mip_flow.proofs.short_buffers.Reads as short-buffers-reads
 use Rattle.schedule_state.proofs.state_number.Reads as state-number-reads
 use Rattle.solve_with_limit.proofs.number.wrong_tables.Reads as wrong-tables-reads
 
--- src/number.rt:36:8
+-- src/number.rt:39:9
+returns : tie.Need-returns
+returns c = let a = c .before .before .before .before .before .args in lent-short (a .limits) (a .day .now) (notState (a .state .now)) _ (c .if1 .taken)
+
+-- src/number.rt:41:9
+choosers-requires : tie.Need-choosers-requires
+choosers-requires c κs = search needs
+
+-- src/number.rt:42:9
+choices-requires : tie.Need-choices-requires
+choices-requires c κs = search needs
+
+-- src/number.rt:43:56
+slots-requires : tie.Need-slots-requires
+slots-requires c κs = search needs
+
+-- src/number.rt:43:8
 too-many-requires : tie.Need-too-many-requires
 too-many-requires c κs = search needs
 
--- src/number.rt:37:9
-returns : tie.Need-returns
-returns c = let a = c .before .before .before .before .args in number-many (a .limits) (a .day) _ _ _ (so (c .before .too-many .ensures) (c .if1 .taken))
+-- src/number.rt:44:9
+returns-2 : tie.Need-returns-2
+returns-2 c = let a = c .before .before .before .before .before .before .before .before .before .before .args in lent-many (a .limits) (a .day .now) (notState (a .state .now)) _ (c .before .before .before .before .before .if1 .left) (so (rw (c .before .before .slots .ensures, c .before .before .before .choices .ensures, c .before .before .before .before .choosers .ensures) at (c .before .too-many .ensures)) (c .if2 .taken))
 
--- src/number.rt:40:17
-mul-cells : tie.Need-mul-cells
-mul-cells c = let a = c .before .before .before .before .before .args in let w = c .before .before .before .before .before .pre in let p : ((ltb (a .limits .choosers) (a .day .choosers) || ltb (a .limits .choices) (a .day .choices)) ≡ false) × (ltb (a .limits .slots) (a .day .slots) ≡ false) = or-split (so (c .before .before .too-many .ensures) (c .before .if1 .left)) in let q : (ltb (a .limits .choosers) (a .day .choosers) ≡ false) × (ltb (a .limits .choices) (a .day .choices) ≡ false) = or-split (p .0) in omega (arith, mul-le-mul (ltb-false (a .limits .choosers) (a .day .choosers) (q .0)) (ltb-false (a .limits .choices) (a .day .choices) (q .1)), mul-le-mul (w .choosers) (w .choices))
+-- src/number.rt:46:9
+max-preference-requires : tie.Need-max-preference-requires
+max-preference-requires c κs = search needs
 
--- src/number.rt:41:9
+-- src/number.rt:47:31
+mul-wrong-tables : tie.Need-mul-wrong-tables
+mul-wrong-tables c =
+    let l = c .before .before .before .before .before .before .before .before .before .before .before .args .limits in
+    let w = c .before .before .before .before .before .before .before .before .before .before .before .pre in
+    let d = dayOf (c .before .before .before .before .before .before .before .before .before .before .before .args .day .now) in
+    let e = so (rw (c .before .before .before .slots .ensures, c .before .before .before .before .choices .ensures, c .before .before .before .before .before .choosers .ensures) at (c .before .before .too-many .ensures)) (c .before .if2 .left) in
+    let p : ((ltb (l .choosers) (d .choosers) || ltb (l .choices) (d .choices)) ≡ false) × (ltb (l .slots) (d .slots) ≡ false) = or-split e in
+    let q : (ltb (l .choosers) (d .choosers) ≡ false) × (ltb (l .choices) (d .choices) ≡ false) = or-split (p .0) in
+    rw (c .before .before .before .before .choices .ensures, c .before .before .before .before .before .choosers .ensures) (omega (arith, mul-le-mul (ltb-false (l .choosers) (d .choosers) (q .0)) (ltb-false (l .choices) (d .choices) (q .1)), mul-le-mul (w .choosers) (w .choices)))
+
+-- src/number.rt:47:9
 wrong-tables-requires : tie.Need-wrong-tables-requires
 wrong-tables-requires c κs = search needs
 
--- src/number.rt:42:37
+-- src/number.rt:48:37
 mul-lists-short : tie.Need-mul-lists-short
-mul-lists-short c = omega (arith, mul-le-mul (c .before .before .before .before .before .before .before .pre .choices) (c .before .before .before .before .before .before .before .pre .slots))
+mul-lists-short c = omega (arith, mul-le-mul (c .before .before .before .before .before .before .before .before .before .before .before .before .before .pre .choices) (c .before .before .before .before .before .before .before .before .before .before .before .before .before .pre .slots))
 
--- src/number.rt:44:41
+-- src/number.rt:49:38
 short-buffers-requires : tie.Need-short-buffers-requires
 short-buffers-requires c κs = search needs
 
--- src/number.rt:45:22
+-- src/number.rt:52:22
 bad-preferences-requires : tie.Need-bad-preferences-requires
 bad-preferences-requires c κs = search needs
 
--- src/number.rt:47:16
+-- src/number.rt:54:16
 bad-costs-requires : tie.Need-bad-costs-requires
 bad-costs-requires c κs = search needs
 
--- src/number.rt:50:5
+-- src/number.rt:57:5
 state-number-requires : tie.Need-state-number-requires
-state-number-requires c κs = handed-model _ _ _ (c .before .before .before .before .wrong-tables .result) (c .before .before .short-buffers .result) (c .before .before .before .before .before .before .before .before .before .before .args .short) (c .before .before .before .before .before .before .before .before .before .before .pre) refl
+state-number-requires c κs = (c .before .before .before .before .before .before .before .before .before .before .before .if1 .left, handed-model _ _ (c .before .before .before .before .before .before .before .before .before .before .before .before .before .before .before .before .args .state .now) _ (notState (c .before .before .before .before .before .before .before .before .before .before .before .before .before .before .before .before .args .state .now)) (c .before .before .before .before .wrong-tables .result) (c .before .before .short-buffers .result) (c .before .before .before .before .before .before .before .before .before .before .before .before .before .before .before .before .args .short) (c .before .before .before .before .before .before .before .before .before .before .before .before .before .before .before .before .pre) (λ f. eqb-true _ _ (not-false _ f)) refl)
 
--- src/number.rt:23:1
-returns-2 : tie.Need-returns-2
-returns-2 c = rw (c .before .before .before .before .before .wrong-tables .ensures, c .before .before .before .short-buffers .ensures, c .before .before .bad-preferences .ensures, c .before .bad-costs .ensures) at (c .state-number .ensures)
+-- src/number.rt:25:1
+returns-3 : tie.Need-returns-3
+unfolding stateNumber
+returns-3 c = let a = c .before .before .before .before .before .before .before .before .before .before .before .before .before .before .before .before .before .args in (rw (c .before .bad-costs .ensures, c .before .before .bad-preferences .ensures, c .before .before .before .short-buffers .ensures, c .before .before .before .before .before .wrong-tables .ensures, c .before .before .before .before .before .before .max-preference .ensures, c .before .before .before .before .before .before .before .before .before .before .choices .ensures, c .before .before .before .before .before .before .before .before .before .before .before .choosers .ensures) at (c .state-number .ensures)) ∙ lent-number (a .limits) (a .day .now) (notState (a .state .now)) _ _ (c .before .before .before .before .before .before .before .before .before .before .before .before .if1 .left)
 
 pub number-with-spec : {M : Type 1} → statement M
 number-with-spec =
     tie.close
     (tie.spec
-    too-many-requires
     returns
-    mul-cells
+    choosers-requires
+    choices-requires
+    slots-requires
+    too-many-requires
+    returns-2
+    max-preference-requires
+    mul-wrong-tables
     wrong-tables-requires
     mul-lists-short
     short-buffers-requires
     bad-preferences-requires
     bad-costs-requires
     state-number-requires
-    returns-2)
+    returns-3)

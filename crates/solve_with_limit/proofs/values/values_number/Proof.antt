@@ -1,6 +1,6 @@
 use mathlib.Core.Path.{sym, _∙_}
 use Rattle.counting.specs.Tests.{so}
-use Rattle.schedule_state.specs.Numbers.{first-applies, first-not}
+use Rattle.input_data.specs.Numbers.{first-applies, first-not}
 use Rattle.solve_with_limit.specs.Checking.{bufferNumber, balancing}
 use borrow.Author.Needs.{needs}
 use Rattle.solve_with_limit.proofs.values.values_number.Statement.{statement}

@@ -23,6 +23,8 @@ const INPUTS: usize = 4_096;
 const DAY_INPUTS: usize = 256;
 /// Rounds, of which the median counts.
 const ROUNDS: usize = 101;
+/// The letters of a call's column.
+const WIDTH: usize = 42;
 
 /// Times one round: nanoseconds a call.
 type Timer = Box<dyn FnMut() -> f64>;
@@ -53,7 +55,14 @@ const ROWS: &[(&str, Row)] = &[
     ("check_values", models::check_values::<0>),
     ("check_values, 32 + 32 constraints", models::check_values::<32>),
     ("choosers_ordered", plans::choosers_ordered),
+    ("choices_ordered", plans::choices_ordered),
+    ("begin, 256 levels", plans::begin),
+    ("tell, 256 levels", plans::tell),
     ("search over 256 levels, nine asks", plans::search),
+    ("satisfies_constraints_scheduling", verdicts::satisfies_scheduling::<0>),
+    ("satisfies_constraints_scheduling, 32 + 32", verdicts::satisfies_scheduling::<32>),
+    ("satisfies_constraints_assignment", verdicts::satisfies_assignment::<0>),
+    ("satisfies_constraints_assignment, 32 + 32", verdicts::satisfies_assignment::<32>),
     ("schedule_is_feasible", verdicts::schedule_is_feasible::<0>),
     ("schedule_is_feasible, 32 + 32", verdicts::schedule_is_feasible::<32>),
     ("is_feasible", verdicts::is_feasible::<0>),
@@ -80,7 +89,8 @@ fn main() {
     println!("The constraints of verdicts and scores all hold. From a moved choice to a score are");
     println!("update, model, check_values, is_feasible and evaluate, beside the Rust's update,");
     println!("model, is_feasible and evaluate of the same plan.");
-    println!("{:<36}{:>10}{:>10}{:>8}", "call", "port ns", "Rust ns", "ratio");
+    println!("Where the Rust has no such call stands a dash.");
+    println!("{:<WIDTH$}{:>10}{:>10}{:>8}", "call", "port ns", "Rust ns", "ratio");
     for (call, timers) in ROWS {
         let mut random = Random::of_case(1, call, 0);
         let (mut port, mut rust) = timers(&mut random);
@@ -92,9 +102,9 @@ fn main() {
         let port = median(port_times);
         if rust.is_some() {
             let rust = median(rust_times);
-            println!("{call:<36}{port:>10.1}{rust:>10.1}{:>8.2}", port / rust);
+            println!("{call:<WIDTH$}{port:>10.1}{rust:>10.1}{:>8.2}", port / rust);
         } else {
-            println!("{call:<36}{port:>10.1}{:>10}{:>8}", "-", "-");
+            println!("{call:<WIDTH$}{port:>10.1}{:>10}{:>8}", "-", "-");
         }
     }
 }

@@ -44,16 +44,21 @@ impl Port {
 
     pub fn model(&mut self, limit: u32, state: &State) -> ModelAnswer {
         let Self { day, preferences, costs, lent } = self;
-        let tables = ModelTables { preferences, costs, lists: &state.lists };
-        port::model(day, &state.own, limit, tables, lent.lend().0)
+        let tables = tables(preferences, costs, state);
+        port::model(&*day, &state.own, limit, tables, lent.lend().0)
     }
 
     pub fn check_values(&mut self, limit: u32, state: &State, values: &[i32]) -> ModelAnswer {
         let Self { day, preferences, costs, lent } = self;
-        let tables = ModelTables { preferences, costs, lists: &state.lists };
+        let tables = tables(preferences, costs, state);
         let (buffers, plan) = lent.lend();
-        port::check_values(day, &state.own, limit, tables, values, buffers, plan)
+        port::check_values(&*day, &state.own, limit, tables, values, buffers, plan)
     }
+}
+
+fn tables<'a>(preferences: &'a [u32], costs: &'a [i64], state: &'a State) -> ModelTables<'a> {
+    let lists = (&state.lists).into();
+    ModelTables { preferences: preferences.into(), costs: costs.into(), lists }
 }
 
 /// A call of the port on a limit and an input.
@@ -81,7 +86,7 @@ fn inputs(random: &mut Random, scene: &Scene, limit: u32) -> Vec<(Input, Rust)> 
         values.resize(Buffer::EdgeValues.named_length(), 0);
         let (own, rust) = scene.schedule(&schedule);
         let mut lists = [0; LISTS];
-        let own = port::build(&scene.port, own, &mut lists).state;
+        let own = port::build(&scene.port, &own, &mut lists).state;
         let carried = scene.rust.build(&rust);
         let input = Input { state: State { own, lists }, values };
         inputs.push((input, Rust { carried, model, plan }));

@@ -71,13 +71,13 @@ pub fn build<const CONSTRAINTS: usize>(random: &mut Random) -> Timers {
     let mut lists = [0; LISTS];
     let schedules = (0..DAY_INPUTS).map(|_| scene.schedule(&dealt(random))).collect::<Vec<_>>();
     for (port, rust) in &schedules {
-        let answer = port::build(&scene.port, *port, &mut lists);
+        let answer = port::build(&scene.port, port, &mut lists);
         scene.assert_same(&answer, &scene.rust.build(rust));
     }
     let (port, rust): (Vec<_>, Vec<_>) = schedules.into_iter().unzip();
     let Scene { port: day, rust: solver, .. } = scene;
     let port = timer(port, move |schedule| {
-        black_box(&port::build(&day, *schedule, &mut lists));
+        black_box(&port::build(&day, schedule, &mut lists));
     });
     (port, Some(timer(rust, move |schedule| _ = black_box(&solver.build(schedule)))))
 }
@@ -109,10 +109,10 @@ fn update<const CONSTRAINTS: usize>(random: &mut Random, old: &Schedule, new: &S
     let scene = Scene::new(random, CONSTRAINTS);
     let mut lists = [0; LISTS];
     let (old, new) = (scene.schedule(old), scene.schedule(new));
-    let mut answer = port::build(&scene.port, old.0, &mut lists);
+    let mut answer = port::build(&scene.port, &old.0, &mut lists);
     let mut carried = scene.rust.build(&old.1);
     for (port, rust) in [&new, &old] {
-        answer = port::update(&scene.port, &answer.state, *port, &mut lists);
+        answer = port::update(&scene.port, &answer.state, port, &mut lists);
         carried = scene.rust.update(&carried, rust);
         scene.assert_same(&answer, &carried);
     }
@@ -120,7 +120,7 @@ fn update<const CONSTRAINTS: usize>(random: &mut Random, old: &Schedule, new: &S
     let (port, rust): (Vec<_>, Vec<_>) = schedules.unzip();
     let Scene { port: day, rust: solver, .. } = scene;
     let port = timer(port, move |schedule| {
-        answer = port::update(&day, &answer.state, *schedule, &mut lists);
+        answer = port::update(&day, &answer.state, schedule, &mut lists);
         black_box(&answer);
     });
     let rust = timer(rust, move |schedule| {
@@ -135,12 +135,12 @@ pub fn slot_list<const CONSTRAINTS: usize>(random: &mut Random) -> Timers {
     let scene = Scene::new(random, CONSTRAINTS);
     let mut lists = [0; LISTS];
     let (schedule, rust) = scene.schedule(&dealt(random));
-    let answer = port::build(&scene.port, schedule, &mut lists);
+    let answer = port::build(&scene.port, &schedule, &mut lists);
     scene.assert_same(&answer, &scene.rust.build(&rust));
     let slots = (0..DAY_INPUTS).map(|place| place % SLOTS).collect::<Vec<_>>();
     for &slot in &slots {
         let found = port::slot_list(&scene.port, &answer.state, &lists, slot);
-        assert_eq!((found.number, found.length), (0, CHOICES / SLOTS));
+        assert_eq!((found.number, found.range().len()), (0, CHOICES / SLOTS));
     }
     let day = scene.port;
     (timer(slots, move |&slot| port::slot_list(&day, &answer.state, &lists, slot)), None)

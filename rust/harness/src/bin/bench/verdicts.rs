@@ -24,14 +24,27 @@ pub struct Port {
     powers: Vec<f32>,
 }
 
+pub fn satisfies_scheduling<const CONSTRAINTS: usize>(random: &mut Random) -> Timers {
+    let port =
+        |port: &Port| port::satisfies_constraints_scheduling(&port.day, &port.schedule).holds;
+    timers(random, CONSTRAINTS, port, |solved| solved.satisfies_scheduling().into())
+}
+
 pub fn schedule_is_feasible<const CONSTRAINTS: usize>(random: &mut Random) -> Timers {
-    let port = |port: &Port| port::schedule_is_feasible(&port.day, port.schedule).holds;
-    timers(random, CONSTRAINTS, port, Solved::schedule_is_feasible)
+    let port = |port: &Port| port::schedule_is_feasible(&port.day, &port.schedule).holds;
+    timers(random, CONSTRAINTS, port, |solved| solved.schedule_is_feasible().into())
+}
+
+pub fn satisfies_assignment<const CONSTRAINTS: usize>(random: &mut Random) -> Timers {
+    let port = |port: &Port| {
+        port::satisfies_constraints_assignment(&port.day, &port.schedule, &port.plan).holds
+    };
+    timers(random, CONSTRAINTS, port, |solved| solved.satisfies_assignment().into())
 }
 
 pub fn is_feasible<const CONSTRAINTS: usize>(random: &mut Random) -> Timers {
-    let port = |port: &Port| port::is_feasible(&port.day, port.schedule, &port.plan).holds;
-    timers(random, CONSTRAINTS, port, Solved::is_feasible)
+    let port = |port: &Port| port::is_feasible(&port.day, &port.schedule, &port.plan).holds;
+    timers(random, CONSTRAINTS, port, |solved| solved.is_feasible().into())
 }
 
 pub fn evaluate<const CONSTRAINTS: usize>(random: &mut Random) -> Timers {
@@ -40,8 +53,9 @@ pub fn evaluate<const CONSTRAINTS: usize>(random: &mut Random) -> Timers {
 
 fn score(port: &Port) -> Score {
     let Port { day, schedule, plan, preferences, powers } = port;
-    let solution = Solution { kind: COMPLETE, schedule: *schedule, plan };
-    port::evaluate(day, solution, false, ScoreTables { preferences, powers }).score
+    let solution = Solution { kind: COMPLETE, schedule: schedule.into(), plan: plan.into() };
+    let tables = ScoreTables { preferences: preferences.into(), powers: powers.into() };
+    port::evaluate(day, solution, 0, tables).score
 }
 
 /// What is timed must be done by both, and with the same result.

@@ -10,7 +10,7 @@ use harness::state::LISTS;
 use harness::suites::verdict::calls::COMPLETE;
 use oracle::calls::Solved;
 use oracle::{Carried, Outcome, Solver};
-use port::{InputData, Scheduling, Score, ScoreTables, Solution};
+use port::{InputData, Lent, Scheduling, Score, ScoreTables, Solution};
 
 /// A schedule to go to, with values that its model accepts.
 struct Step {
@@ -37,14 +37,15 @@ struct Way {
 impl Way {
     fn go(&mut self, step: &Step) -> (bool, Score) {
         let Self { day, limit, preferences, powers, port, state } = self;
-        state.own = port::update(day, &state.own, step.schedule, &mut state.lists).state;
+        let schedule = &step.schedule;
+        state.own = port::update(&*day, &state.own, schedule, &mut state.lists).state;
         port.model(*limit, state);
         port.check_values(*limit, state, &step.values);
         let plan = port.lent.lend().1;
-        let holds = port::is_feasible(day, step.schedule, plan).holds;
-        let solution = Solution { kind: COMPLETE, schedule: step.schedule, plan };
-        let tables = ScoreTables { preferences, powers };
-        (holds, port::evaluate(day, solution, false, tables).score)
+        let holds = port::is_feasible(&*day, schedule, &*plan).holds == 1;
+        let (preferences, powers) = (Lent::from(&*preferences), Lent::from(&*powers));
+        let solution = Solution { kind: COMPLETE, schedule: schedule.into(), plan: plan.into() };
+        (holds, port::evaluate(&*day, solution, 0, ScoreTables { preferences, powers }).score)
     }
 }
 
@@ -63,7 +64,7 @@ pub fn way(random: &mut Random) -> Timers {
     let steps = steps(&scene, limit, [&old, &new]);
     let (old_own, old_rust) = scene.schedule(&old);
     let mut lists = [0; LISTS];
-    let own = port::build(&scene.port, old_own, &mut lists).state;
+    let own = port::build(&scene.port, &old_own, &mut lists).state;
     let (preferences, powers) = (scene.day.preferences.clone(), scene.day.powers.clone());
     let (day, port) = (scene.port, Port::new(&scene));
     let mut way = Way { day, limit, preferences, powers, port, state: State { own, lists } };

@@ -1,14 +1,13 @@
 //! The two calls on guarded input, compared in all that they give and leave.
 use super::lent::{Lengths, Lent, VALUES};
 use crate::answers;
-use crate::boundary;
 use crate::day::Day;
 use crate::random::Random;
 use crate::recording::{Entry, Note, note};
 use crate::run::{Failure, Outcome, wanted};
 use oracle::{Plan, Record};
 use port::guarded::Guarded;
-use port::{InputData, ModelAnswer, ModelTables, ScheduleState};
+use port::{ModelAnswer, ModelTables};
 use std::fmt;
 
 /// What a call is asked: the model at a limit, or whether it accepts values.
@@ -33,8 +32,8 @@ impl fmt::Debug for Asked {
 
 pub struct Calls<'a> {
     day: &'a Day,
-    lent_day: InputData,
-    state: ScheduleState,
+    lent_day: Guarded<u8>,
+    state: Guarded<u8>,
     preferences: Guarded<u32>,
     costs: Guarded<i64>,
     lists: Guarded<u8>,
@@ -43,16 +42,16 @@ pub struct Calls<'a> {
 }
 
 impl<'a> Calls<'a> {
+    /// The day and the state are lent as these bytes.
     pub fn new(
-        random: &mut Random,
         day: &'a Day,
-        state: ScheduleState,
+        [lent_day, state]: [Guarded<u8>; 2],
         lists: &[u8],
         lengths: Lengths,
     ) -> Self {
         Self {
             day,
-            lent_day: boundary::day(random, day),
+            lent_day,
             state,
             preferences: Guarded::holding(&day.preferences),
             costs: Guarded::holding(&day.costs),
@@ -99,8 +98,9 @@ impl<'a> Calls<'a> {
 
     fn noted(&self, asked: &Asked, answer: ModelAnswer) -> Note {
         let entry = if asked.values.is_some() { Entry::CheckValues } else { Entry::Model };
-        let note = Note::new(entry, answer.number).day(&self.lent_day).put(&self.state);
-        let note = note.put(&asked.limit).table(self.preferences.now()).table(self.costs.now());
+        let note = Note::new(entry, answer.number).day(self.day, self.lent_day.now());
+        let note = note.table(self.state.now()).put(&asked.limit);
+        let note = note.table(self.preferences.now()).table(self.costs.now());
         let note = note.table(self.lists.now());
         let note = match &asked.values {
             None => self.lent.noted_model(note),
@@ -114,12 +114,12 @@ impl<'a> Calls<'a> {
         note(|| self.noted(asked, answer));
         let mut values = asked.values.as_deref().map(Guarded::holding);
         let tables = ModelTables {
-            preferences: self.preferences.lend(),
-            costs: self.costs.lend(),
-            lists: self.lists.lend(),
+            preferences: self.preferences.lend().into(),
+            costs: self.costs.lend().into(),
+            lists: self.lists.lend().into(),
         };
         let (model, plan) = self.lent.lend();
-        let (day, state, limit) = (&self.lent_day, &self.state, asked.limit);
+        let (day, state, limit) = (self.lent_day.lend(), self.state.lend(), asked.limit);
         let found = match &mut values {
             None => port::model(day, state, limit, tables, model),
             Some(values) => {
@@ -127,10 +127,11 @@ impl<'a> Calls<'a> {
             }
         };
         let input = || {
-            let (day, state, lists) = (self.day, &self.state, self.lists.now());
-            format!("{asked:?} of {day:?} {state:?} with lists {lists:?}")
+            let (day, state, lists) = (self.day, self.state.now(), self.lists.now());
+            format!("{asked:?} of {day:?} state {state:?} with lists {lists:?}")
         };
         wanted(found, answer, input)?;
+        wanted([&self.lent_day, &self.state].map(Guarded::changed), [None; 2], input)?;
         let changes = (self.preferences.changed(), self.costs.changed(), self.lists.changed());
         wanted(changes, (None, None, None), input)?;
         wanted(values.and_then(|values| values.changed()), None, input)?;

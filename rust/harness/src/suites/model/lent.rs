@@ -105,14 +105,14 @@ impl Lent {
     /// The buffers of the model, and that of the plan.
     pub fn lend(&mut self) -> (ModelBuffers<'_>, &mut [u8]) {
         let model = ModelBuffers {
-            supplies: self.supplies.buffer.lend(),
-            from: self.from.buffer.lend(),
-            to: self.to.buffer.lend(),
-            max: self.max.buffer.lend(),
-            cost: self.cost.buffer.lend(),
-            entries: self.entries.buffer.lend(),
-            ends: self.ends.buffer.lend(),
-            blocked: self.blocked.buffer.lend(),
+            supplies: self.supplies.buffer.lend().into(),
+            from: self.from.buffer.lend().into(),
+            to: self.to.buffer.lend().into(),
+            max: self.max.buffer.lend().into(),
+            cost: self.cost.buffer.lend().into(),
+            entries: self.entries.buffer.lend().into(),
+            ends: self.ends.buffer.lend().into(),
+            blocked: self.blocked.buffer.lend().into(),
         };
         (model, self.plan.buffer.lend())
     }

@@ -70,12 +70,12 @@ fn look(features: &mut Features, scene: &Scene, limit: u32, model: &Record) {
     look_at_limit(features, day, limit);
     look_at_state(features, scene, model);
     let answer = answers::model(model);
-    let is_full = |buffer: Buffer, used: usize| used == buffer.named_length();
+    let is_full = |buffer: Buffer, used: u64| used == buffer.named_length() as u64;
     features.look("no choosers", day.choosers == 0);
     features.look("no choices", day.choices == 0);
     features.look("no slots", day.slots == 0);
     features.look("groups and blocked edges", answer.entries > 0 && answer.blocked > 0);
-    features.look("all supplies", is_full(Buffer::Supplies, model.supply.len()));
+    features.look("all supplies", is_full(Buffer::Supplies, model.supply.len() as u64));
     features.look("all groups", is_full(Buffer::GroupEnds, answer.groups));
     features.look("all group entries", is_full(Buffer::GroupEntries, answer.entries));
     features.look("more than 1,000 blocked edges", answer.blocked > 1_000);

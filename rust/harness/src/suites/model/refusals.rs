@@ -6,14 +6,12 @@ use super::lent::{BUFFERS, OF_MODEL, VALUES, random_lengths};
 use super::scene::{Scene, random_model_day};
 use super::{DAYS, random_limit};
 use crate::answers;
-use crate::boundary;
 use crate::bridge;
 use crate::damage::{self, Damage, Input};
 use crate::day::sample_day;
 use crate::features::Features;
-use crate::lists::fronts;
 use crate::random::Random;
-use crate::reading::{Handed, faults, values_number};
+use crate::reading::{Handed, Layout, faults, values_number};
 use crate::run::{Outcome, Run, wanted};
 use crate::state::LISTS;
 use crate::suites::refused::{self, Numbers, damaged, first};
@@ -24,7 +22,7 @@ use std::array;
 const TRIES: usize = 5;
 
 /// The numbers by which each call refuses. Its done calls are looked for too.
-const NUMBERS: [Numbers; 2] = [
+pub const NUMBERS: [Numbers; 2] = [
     ("model", &[0, 1, 2, 3, 4, 6, 7, 8, 9, 10, 11, 12]),
     ("check_values", &[0, 1, 2, 3, 4, 6, 7, 8, 9, 10, 11, 12]),
 ];
@@ -103,10 +101,12 @@ struct Trial<'a> {
 impl<'a> Trial<'a> {
     fn new(random: &mut Random, features: &'a mut Features, input: &'a Input, limit: u32) -> Self {
         let Input { day, state, buffers, .. } = input;
+        let layouts = [Layout::Day, Layout::State];
         let handed = Handed {
             day: Some(day),
             preferences: Some(&day.preferences),
             costs: Some(&day.costs),
+            layouts: &input.layouts(&layouts),
             state: Some(state),
             ..Handed::default()
         };
@@ -114,9 +114,9 @@ impl<'a> Trial<'a> {
         let of_values = faults(&Handed { buffers, ..handed });
         let numbers =
             [first(features, NUMBERS[0].0, &of_model), first(features, NUMBERS[1].0, &of_values)];
-        let own = boundary::state(random, day, state);
+        let lent = layouts.map(|layout| input.lend(random, layout));
         let lengths = array::from_fn(|place| buffers[place].1);
-        let calls = Calls::new(random, day, own, &state.lists, lengths);
+        let calls = Calls::new(day, lent, &state.lists, lengths);
         Self { features, input, limit, calls, numbers }
     }
 
@@ -126,7 +126,7 @@ impl<'a> Trial<'a> {
             let asked = Asked { limit, values: None };
             return self.calls.gives(&asked, answers::refused_model(self.numbers[0]));
         }
-        let model = rust(self.input, |solver| solver.model(limit));
+        let model = self.rust(|solver| solver.model(limit));
         self.calls.models(limit, &model)
     }
 
@@ -142,21 +142,15 @@ impl<'a> Trial<'a> {
         if number > 0 {
             return self.calls.gives(&asked, answers::refused_model(number));
         }
-        let model = rust(self.input, |solver| solver.model(limit));
+        let model = self.rust(|solver| solver.model(limit));
         let used = &values[..model.edges.len()];
-        let decode = || rust(self.input, |solver| solver.decode(limit, used));
+        let Input { day, state, .. } = self.input;
+        let decode = || bridge::ask(day, state, |solver| solver.decode(limit, used));
         self.calls.judges(&asked, &model, values_number(&model, used), decode)?;
         Ok(())
     }
-}
 
-/// Asks the Rust with the state and the slot lists of the input.
-fn rust<T>(input: &Input, ask: impl FnOnce(&mut Solver) -> T) -> T {
-    let Input { day, state, .. } = input;
-    let schedule = &state.schedule[..day.choices];
-    let problem = bridge::problem(day);
-    let mut solver = problem.solver();
-    solver.prepare(schedule);
-    solver.reorder(fronts(&state.lists, schedule, day.slots));
-    ask(&mut solver)
+    fn rust<T>(&self, what: impl FnOnce(&mut Solver) -> T) -> T {
+        bridge::ask(&self.input.day, &self.input.state, what)
+    }
 }

@@ -1,9 +1,11 @@
 //! Days for models, led through a chain of schedules on both sides.
 use super::calls::Calls;
 use super::lent::random_lengths;
+use crate::boundary::{lent, lent_day};
 use crate::constraint::{Constraint, kind, target};
 use crate::day::{CONSTRAINTS, Day, GROUPS, MEMBERS, Size, random_day, random_size};
 use crate::random::Random;
+use crate::reading::Layout;
 use crate::run::Failure;
 use crate::schedule::{Schedule, random_chain, random_schedule};
 use crate::suites::state::walk::Walk;
@@ -82,7 +84,8 @@ impl<'a> Scene<'a> {
     /// The calls on the state as it stands.
     pub fn calls(&self, random: &mut Random) -> Calls<'a> {
         let state = self.walk.handed_on(random);
-        let lengths = random_lengths(random);
-        Calls::new(random, self.walk.day, state, &self.walk.bytes, lengths)
+        let day = self.walk.day;
+        let lent = [lent_day(random, day), lent(random, Layout::State, &state)];
+        Calls::new(day, lent, &self.walk.bytes, random_lengths(random))
     }
 }

@@ -16,7 +16,7 @@ use crate::suites::refused::{self, Numbers};
 const TRIES: usize = 2;
 
 /// What the values alone decide.
-const NUMBERS: Numbers = ("check_values", &[0, 14, 15, 16, 17]);
+pub const NUMBERS: Numbers = ("check_values", &[0, 14, 15, 16, 17]);
 
 pub fn run(run: &mut Run) {
     let mut features = refused::features(&[], &[NUMBERS]);

@@ -1,15 +1,13 @@
 //! The four calls on a plan, on guarded input, compared in all that they give
 //! and leave.
-use crate::boundary;
 use crate::day::Day;
-use crate::random::Random;
 use crate::reading::Asked;
 use crate::recording::{Entry, Note, note};
 use crate::run::{Outcome, wanted};
 use crate::suites::kept::Kept;
 use oracle::calls::Seated;
 use port::guarded::Guarded;
-use port::{ChoiceAnswer, InChoiceAnswer, InputData, RosterAnswer};
+use port::{ChoiceAnswer, InChoiceAnswer, RosterAnswer};
 
 /// A call with what it is asked about.
 #[derive(Debug, Clone, Copy)]
@@ -64,7 +62,7 @@ impl Call {
             Self::ChoosersOrdered { choice } => listed(&plan.choosers_ordered(choice)),
             Self::ChoicesOrdered { chooser } => listed(&plan.choices_ordered(chooser)),
             Self::IsInChoice { chooser, choice } => {
-                let found = plan.is_in_choice(chooser, choice);
+                let found = plan.is_in_choice(chooser, choice).into();
                 (Answer::InChoice(InChoiceAnswer { number: 0, found }), Vec::new())
             }
             Self::ChoiceOf { chooser, slot } => {
@@ -80,7 +78,7 @@ impl Call {
             Self::ChoosersOrdered { .. } | Self::ChoicesOrdered { .. } => {
                 Answer::Roster(RosterAnswer { number, length: 0 })
             }
-            Self::IsInChoice { .. } => Answer::InChoice(InChoiceAnswer { number, found: false }),
+            Self::IsInChoice { .. } => Answer::InChoice(InChoiceAnswer { number, found: 0 }),
             Self::ChoiceOf { .. } => Answer::Choice(ChoiceAnswer { number, choice: 0 }),
         }
     }
@@ -88,24 +86,20 @@ impl Call {
 
 fn listed(entries: &[usize]) -> (Answer, Vec<u8>) {
     let roster = entries.iter().map(|&entry| entry as u8).collect::<Vec<_>>();
-    (Answer::Roster(RosterAnswer { number: 0, length: roster.len() }), roster)
+    (Answer::Roster(RosterAnswer { number: 0, length: roster.len() as u64 }), roster)
 }
 
 pub struct Calls<'a> {
     day: &'a Day,
-    lent_day: InputData,
+    lent_day: Guarded<u8>,
     plan: Guarded<u8>,
     roster: Kept<u8>,
 }
 
 impl<'a> Calls<'a> {
-    pub fn new(random: &mut Random, day: &'a Day, plan: &[u8], roster: usize) -> Self {
-        Self {
-            day,
-            lent_day: boundary::day(random, day),
-            plan: Guarded::holding(plan),
-            roster: Kept::new(roster),
-        }
+    /// The day is lent as these bytes.
+    pub fn new(day: &'a Day, lent_day: Guarded<u8>, plan: &[u8], roster: usize) -> Self {
+        Self { day, lent_day, plan: Guarded::holding(plan), roster: Kept::new(roster) }
     }
 
     /// Puts the pattern back into the roster.
@@ -121,13 +115,14 @@ impl<'a> Calls<'a> {
         let found = self.make(call);
         let input = || format!("{call:?} of {:?} plan {:?}", self.day, self.plan.now());
         wanted(found, answer, input)?;
-        wanted(self.plan.changed(), None, input)?;
+        wanted([&self.lent_day, &self.plan].map(Guarded::changed), [None; 2], input)?;
         self.roster.is_right("roster", &input)
     }
 
     fn noted(&self, call: Call, answer: Answer) -> Note {
-        let note =
-            |entry, number| Note::new(entry, number).day(&self.lent_day).table(self.plan.now());
+        let note = |entry, number| {
+            Note::new(entry, number).day(self.day, self.lent_day.now()).table(self.plan.now())
+        };
         match (call, answer) {
             (Call::ChoosersOrdered { choice: asked }, Answer::Roster(answer)) => {
                 let note = note(Entry::ChoosersOrdered, answer.number).put(&asked);
@@ -138,7 +133,7 @@ impl<'a> Calls<'a> {
                 self.roster.noted(note).put(&answer)
             }
             (Call::IsInChoice { chooser, choice }, Answer::InChoice(answer)) => {
-                let note = note(Entry::IsInChoice, answer.number).known_by(answer.found);
+                let note = note(Entry::IsInChoice, answer.number).known_by(answer.found == 1);
                 note.put(&chooser).put(&choice).put(&answer)
             }
             (Call::ChoiceOf { chooser, slot }, Answer::Choice(answer)) => {
@@ -150,7 +145,7 @@ impl<'a> Calls<'a> {
 
     fn make(&mut self, call: Call) -> Answer {
         let Self { lent_day: day, plan, roster, .. } = self;
-        let (plan, roster) = (plan.lend(), roster.buffer.lend());
+        let (day, plan, roster) = (day.lend(), plan.lend(), roster.buffer.lend());
         match call {
             Call::ChoosersOrdered { choice } => {
                 Answer::Roster(port::choosers_ordered(day, plan, choice, roster))

@@ -3,6 +3,7 @@
 mod calls;
 pub mod refusals;
 
+use crate::boundary::lent_day;
 use crate::bridge;
 use crate::day::{CHOOSERS, Day, SLOTS, Size, random_day, random_size};
 use crate::features::Features;
@@ -70,7 +71,7 @@ fn try_plan(
     features.look("no slots", day.slots == 0);
     let seated = Seated::new(problem, &rows(day, plan));
     let length = PLAN + random.pick(&[0, 0, 1, 40]);
-    let mut calls = Calls::new(random, day, plan, length);
+    let mut calls = Calls::new(day, lent_day(random, day), plan, length);
     for _ in 0..TRIES {
         for call in random_calls(random, day, plan) {
             let rust = call.rust(&seated);
@@ -114,8 +115,9 @@ fn look(features: &mut Features, day: &Day, call: Call, (answer, roster): &(Answ
             features.look(format!("{name}: a choice twice"), twice);
         }
         (_, Answer::InChoice(in_choice)) => {
-            features.look(format!("{name}: in it"), in_choice.found);
-            features.look(format!("{name}: not in it"), day.slots > 0 && !in_choice.found);
+            let is_in = in_choice.found == 1;
+            features.look(format!("{name}: in it"), is_in);
+            features.look(format!("{name}: not in it"), day.slots > 0 && !is_in);
         }
         _ => features.look(format!("{name}: done"), true),
     }

@@ -8,7 +8,7 @@ use crate::day::{Day, random_day, random_size};
 use crate::features::Features;
 use crate::plan::{PLAN, rows, wild_plan};
 use crate::random::Random;
-use crate::reading::{Asked, Buffer, Handed, faults};
+use crate::reading::{Asked, Buffer, Handed, Layout, faults};
 use crate::run::{Days, Outcome, Run};
 use crate::suites::refused::{self, Numbers, damaged, first};
 use oracle::Problem;
@@ -20,7 +20,7 @@ const DAYS: Days = Days { usual: 20_000, for_features: 5_000 };
 const TRIES: usize = 5;
 
 /// The numbers by which each call refuses. Its done calls are looked for too.
-const NUMBERS: [Numbers; 4] = [
+pub const NUMBERS: [Numbers; 4] = [
     ("choosers_ordered", &[0, 1, 2, 3, 4, 7, 8, 9, 10, 13]),
     ("choices_ordered", &[0, 1, 2, 3, 4, 7, 8, 9, 10, 13]),
     ("is_in_choice", &[0, 1, 2, 3, 4, 7, 8, 9, 10, 13]),
@@ -82,12 +82,13 @@ fn one_call(
     let handed = Handed {
         day: Some(day),
         plan: Some(plan),
+        layouts: &input.layouts(&[Layout::Day]),
         asked: &call.asked(),
         buffers: &buffers[..usize::from(has_roster)],
         ..Handed::default()
     };
     let number = first(features, call.name(), &faults(&handed));
-    let mut calls = Calls::new(random, day, plan, input.buffers[0].1);
+    let mut calls = Calls::new(day, input.lend(random, Layout::Day), plan, input.buffers[0].1);
     if number > 0 {
         return calls.gives(call, (call.refused(number), Vec::new()));
     }

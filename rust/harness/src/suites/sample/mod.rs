@@ -9,10 +9,11 @@ use crate::bridge;
 use crate::day::{CHOICES, Day, sample_day};
 use crate::run::{Run, wanted};
 use crate::schedule::Schedule;
+use crate::search::Memory;
 use crate::state::LISTS;
 use crate::suites::search::walk::Walk;
 use oracle::{Ask, Told};
-use port::{CachedAssignment, Scheduling};
+use port::Scheduling;
 
 const SCHEDULE: [Option<usize>; 3] = [Some(0), Some(0), Some(1)];
 /// Choice 0 moved to slot 1.
@@ -61,12 +62,11 @@ fn port_states(run: &mut Run) {
         let day = boundary::day(random, &sample_day());
         let schedule = |slots| Scheduling { entries: boundary::entries(slots) };
         let (mut lists, mut afresh) = ([0xEE; LISTS], [0xEE; LISTS]);
-        let first = port::build(&day, schedule(&SCHEDULE), &mut lists);
-        let carried = port::update(&day, &first.state, schedule(&MOVED), &mut lists);
-        let fresh = port::build(&day, schedule(&MOVED), &mut afresh);
+        let first = port::build(&day, &schedule(&SCHEDULE), &mut lists);
+        let carried = port::update(&day, &first.state, &schedule(&MOVED), &mut lists);
+        let fresh = port::build(&day, &schedule(&MOVED), &mut afresh);
         let list = |lists: &[u8], slot| {
-            let list = port::slot_list(&day, &carried.state, lists, slot);
-            lists[list.start..][..list.length].to_vec()
+            lists[port::slot_list(&day, &carried.state, lists, slot).range()].to_vec()
         };
         let orders = [&lists, &afresh].map(|lists| [0, 1].map(|slot| list(lists, slot)));
         let covered = [first, carried, fresh].map(|answer| answer.state.covered[..2].to_vec());
@@ -88,9 +88,8 @@ fn limits(run: &mut Run) {
     ];
     for (day, number) in days {
         run.case(|random| {
-            let none = Scheduling { entries: [0; CHOICES] };
             let own = boundary::day(random, &day);
-            let found = port::build(&own, none, &mut [0; LISTS]).number;
+            let found = port::build(&own, &Scheduling::default(), &mut [0; LISTS]).number;
             wanted(found, number, || format!("{day:?}"))
         });
     }
@@ -108,7 +107,7 @@ fn searches(run: &mut Run) {
 fn one_search(run: &mut Run, day: &Day, script: &[Told], levels: (Vec<u32>, u32)) {
     let problem = bridge::problem(day);
     run.case(|random| {
-        let mut walk = Walk::new(day, &problem, CachedAssignment::default());
+        let mut walk = Walk::new(day, &problem, Memory::NONE);
         let rust = walk.search(random, &whole(&SCHEDULE), script)?;
         let asks = rust.asks.into_iter().map(|Ask { limit, .. }| limit).collect();
         wanted((asks, walk.port.level), levels, || format!("asks of {day:?}"))

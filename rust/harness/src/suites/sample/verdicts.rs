@@ -52,7 +52,7 @@ fn one_offset(run: &mut Run, offset: i32, holds: bool) {
 }
 
 fn verdict(holds: bool) -> Answer {
-    Answer::Verdict(VerdictAnswer { number: 0, holds })
+    Answer::Verdict(VerdictAnswer { number: 0, holds: holds.into() })
 }
 
 /// The call gives this answer, in the Rust and in the port.

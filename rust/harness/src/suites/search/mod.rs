@@ -11,9 +11,8 @@ use crate::features::Features;
 use crate::random::Random;
 use crate::run::{Days, Outcome, Run};
 use crate::schedule::{Schedule, changed_schedule, random_schedule};
-use crate::search::{random_memory, remembers};
+use crate::search::{Memory, random_memory, remembers};
 use oracle::Told;
-use port::CachedAssignment;
 use walk::Walk;
 
 const DAYS: Days = Days { usual: 20_000, for_features: 2_000 };
@@ -136,7 +135,7 @@ fn look(features: &mut Features, day: &Day, walk: &Walk, script: &[Told]) {
 }
 
 /// What the search met in the memory, and what it left there.
-fn look_at_memory(features: &mut Features, day: &Day, walk: &Walk, before: &CachedAssignment) {
+fn look_at_memory(features: &mut Features, day: &Day, walk: &Walk, before: &Memory) {
     let search = &walk.port;
     let is_met = remembers(day, before, search.schedule);
     let is_other = before.there && before.greedy != day.greedy;

@@ -6,9 +6,8 @@ use crate::day::{CHOICES, Day};
 use crate::random::Random;
 use crate::run::{Outcome, Run};
 use crate::schedule::Schedule;
-use crate::search::scripts;
+use crate::search::{Memory, scripts};
 use oracle::Told;
-use port::CachedAssignment;
 
 /// The most levels of which all paths are walked.
 const MOST: usize = 12;
@@ -48,7 +47,7 @@ fn day_of(count: usize) -> Day {
 fn one_path(random: &mut Random, day: &Day, script: &[Told]) -> Outcome {
     let problem = bridge::problem(day);
     let all = schedule(day.choices);
-    let none = CachedAssignment::default();
+    let none = Memory::NONE;
     let mut walk = Walk::new(day, &problem, none);
     walk.search(random, &all, script)?;
     walk.search(random, &all, script)?;

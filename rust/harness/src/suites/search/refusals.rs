@@ -1,22 +1,22 @@
 //! Begin and tell on damaged input: the number that the second reading gives,
 //! and zeros beside it. What the damage leaves sound is compared with the second
 //! reading of the search.
-use crate::answers::refused_search;
-use crate::boundary;
+use crate::answers::{self, refused_search};
+use crate::boundary::{self, entries};
 use crate::damage::{self, Damage, Input};
 use crate::day::{Day, random_day, random_size};
 use crate::features::Features;
 use crate::plan::{PLAN, random_plan};
 use crate::random::Random;
-use crate::reading::{Handed, faults};
+use crate::reading::{Handed, Layout, faults};
 use crate::recording::{Entry, Note, note};
 use crate::run::{Days, Outcome, Run, wanted};
 use crate::schedule::random_schedule;
-use crate::search::{FEASIBLE, INFEASIBLE, begun, told};
+use crate::search::{FEASIBLE, INFEASIBLE, Step, begun, told};
 use crate::suites::refused::{self, Numbers, damaged, first};
 use oracle::Told;
-use port::SearchAnswer;
 use port::guarded::Guarded;
+use port::{Scheduling, SearchAnswer};
 
 const DAYS: Days = Days { usual: 20_000, for_features: 5_000 };
 
@@ -24,8 +24,8 @@ const DAYS: Days = Days { usual: 20_000, for_features: 5_000 };
 const TRIES: usize = 5;
 
 /// The numbers by which each call refuses. Its done calls are looked for too.
-const NUMBERS: [Numbers; 2] = [
-    ("begin", &[0, 1, 3, 4, 5, 7, 8, 9, 10, 11, 13]),
+pub const NUMBERS: [Numbers; 2] = [
+    ("begin", &[0, 1, 2, 3, 4, 5, 7, 8, 9, 10, 11, 13]),
     ("tell", &[0, 1, 2, 3, 4, 5, 7, 8, 9, 10, 11, 13, 18]),
 ];
 
@@ -55,35 +55,43 @@ fn input(random: &mut Random, day: &Day) -> Input {
 
 fn begin(random: &mut Random, features: &mut Features, input: &Input) -> Outcome {
     let Input { day, schedule, search, .. } = input;
+    let layouts = [Layout::Day, Layout::Schedule, Layout::Memory];
     let handed = Handed {
         day: Some(day),
         levels: Some(&day.levels),
+        layouts: &input.layouts(&layouts),
         schedule: Some(schedule),
         cached: Some(&search.cached),
         ..Handed::default()
     };
     let number = first(features, "begin", &faults(&handed));
-    let lent_day = boundary::day(random, day);
-    let lent = boundary::schedule(random, day, schedule);
-    let answer = if number > 0 { refused_search(number) } else { begun(day, lent, search.cached) };
+    let own = Scheduling { entries: entries(schedule) };
+    let answer = answer(number, || begun(day, own, search.cached));
+    let [mut lent_day, mut lent, mut cached] = layouts.map(|layout| input.lend(random, layout));
+    let greedy = boundary::setting(random, day.greedy);
     note(|| {
-        let note = Note::new(Entry::Begin, number).day(&lent_day).put(&lent).table(&day.levels);
-        note.put(&day.bound).put(&day.greedy).put(&search.cached).put(&answer)
+        let note = Note::new(Entry::Begin, number).day(day, lent_day.now()).table(lent.now());
+        let note = note.table(&day.levels).put(&day.bound).put(&greedy);
+        note.table(cached.now()).put(&answer)
     });
     let mut levels = Guarded::holding(&day.levels);
-    let found = port::begin(&lent_day, lent, levels.lend(), day.bound, day.greedy, &search.cached);
+    let found =
+        port::begin(lent_day.lend(), lent.lend(), levels.lend(), day.bound, greedy, cached.lend());
     let trace = || format!("begin of {input:?}");
     wanted(found, answer, trace)?;
+    wanted([&lent_day, &lent, &cached].map(Guarded::changed), [None; 3], trace)?;
     wanted(levels.changed(), None, trace)
 }
 
 fn tell(random: &mut Random, features: &mut Features, input: &Input) -> Outcome {
     let Input { day, search, result, plan, .. } = input;
     let schedule = boundary::slots(&search.schedule);
+    let layouts = [Layout::Day, Layout::Search];
     // Without a feasible result the plan is not looked at.
     let handed = Handed {
         day: Some(day),
         levels: Some(&day.levels),
+        layouts: &input.layouts(&layouts),
         schedule: Some(&schedule),
         plan: (*result == FEASIBLE).then_some(plan),
         search: Some(search),
@@ -97,27 +105,33 @@ fn tell(random: &mut Random, features: &mut Features, input: &Input) -> Outcome 
         INFEASIBLE => Told::Infeasible,
         _ => Told::Late,
     };
-    let answer = if number > 0 { refused_search(number) } else { told(day, search, entry, plan) };
+    let answer = answer(number, || told(day, search, entry, plan));
+    let [mut lent_day, mut own] = layouts.map(|layout| input.lend(random, layout));
     let (mut levels, mut lent) = (Guarded::holding(&day.levels), Guarded::holding(plan));
-    let lent_day = boundary::day(random, day);
     // The range of a greedy search is free: it is noted where it is 0.
     if answer == without_free_range(answer) {
         note(|| {
-            let note = Note::new(Entry::Tell, number).known_by(answer.search.asking);
-            let note = note.day(&lent_day).put(search);
+            let note = Note::new(Entry::Tell, number).known_by(answer.search.is_asking());
+            let note = note.day(day, lent_day.now()).table(own.now());
             note.table(&day.levels).put(result).table(plan).put(&answer)
         });
     }
-    let found = port::tell(&lent_day, search, levels.lend(), *result, lent.lend());
+    let found = port::tell(lent_day.lend(), own.lend(), levels.lend(), *result, lent.lend());
     let trace = || format!("tell of {input:?}");
     wanted(without_free_range(found), without_free_range(answer), trace)?;
-    wanted((levels.changed(), lent.changed()), (None, None), trace)
+    wanted([&lent_day, &own, &lent].map(Guarded::changed), [None; 3], trace)?;
+    wanted(levels.changed(), None, trace)
+}
+
+/// What a call gives by this number.
+fn answer(number: u32, step: impl FnOnce() -> Step) -> SearchAnswer {
+    if number > 0 { refused_search(number) } else { answers::search(step()) }
 }
 
 /// A greedy search has no range: it is free what comes back of one that was
 /// handed in.
 fn without_free_range(mut answer: SearchAnswer) -> SearchAnswer {
-    if answer.search.greedy {
+    if answer.search.greedy == 1 {
         (answer.search.start, answer.search.low, answer.search.high) = (0, 0, 0);
     }
     answer

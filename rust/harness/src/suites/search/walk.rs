@@ -1,17 +1,17 @@
 //! Searches of one solver of the Rust and of the port beside each other, one
 //! after the other. The Rust remembers inside itself; the port's memory is
 //! handed on.
-use crate::answers::refused_search;
+use crate::answers::{self, refused_search};
 use crate::boundary;
 use crate::day::Day;
 use crate::plan::{PLAN, of_rows, rows};
 use crate::random::Random;
 use crate::run::{Failure, Outcome, same, wanted};
 use crate::schedule::Schedule;
-use crate::search::{FEASIBLE, INFEASIBLE, ask_of, begun, told};
+use crate::search::{FEASIBLE, INFEASIBLE, Memory, Search, ask_of, begun, told};
 use oracle::{Problem, SearchRun, Solver, Told};
 use port::guarded::Guarded;
-use port::{CachedAssignment, InputData, Scheduling, Search, SearchAnswer};
+use port::{CachedAssignment, InputData, Scheduling, SearchAnswer};
 
 /// Tells what is searched.
 type Trace<'a> = dyn Fn() -> String + 'a;
@@ -21,7 +21,7 @@ pub struct Walk<'a> {
     solver: Solver<'a>,
     levels: Guarded<u32>,
     /// What the port remembers.
-    pub cached: CachedAssignment,
+    pub cached: Memory,
     /// The port's last search.
     pub port: Search,
 }
@@ -29,13 +29,13 @@ pub struct Walk<'a> {
 impl<'a> Walk<'a> {
     /// A solver that remembers nothing. A memory that is handed to the port must
     /// not be one that answers.
-    pub fn new(day: &'a Day, problem: &'a Problem, cached: CachedAssignment) -> Self {
+    pub fn new(day: &'a Day, problem: &'a Problem, cached: Memory) -> Self {
         Self {
             day,
             solver: problem.solver(),
             levels: Guarded::holding(&day.levels),
             cached,
-            port: Search::default(),
+            port: Search::NONE,
         }
     }
 
@@ -53,10 +53,11 @@ impl<'a> Walk<'a> {
         let rust = self.solver.search_told(&schedule[..own.choices], script);
         let day = boundary::day(random, own);
         let lent = boundary::schedule(random, own, schedule);
-        let mut answer = self.begin(&day, lent, &cached, &trace)?;
+        let mut answer = self.begin(random, &day, lent, cached, &trace)?;
         for (place, &entry) in script.iter().enumerate() {
-            same(ask_of(&answer), rust.asks.get(place).cloned(), trace)?;
-            if !answer.search.asking {
+            let ask = ask_of(&answer.search.into(), answer.level);
+            same(ask, rust.asks.get(place).cloned(), trace)?;
+            if !answer.search.is_asking() {
                 break;
             }
             let plan = self.plan(random, entry, answer.level);
@@ -64,21 +65,23 @@ impl<'a> Walk<'a> {
         }
         same(answer.search.asks as usize, rust.asks.len(), trace)?;
         self.is_over(random, &day, &answer.search, &trace)?;
-        self.ends(&answer.search, &rust, &trace)?;
+        self.ends(&answer.search.into(), &rust, &trace)?;
         Ok(rust)
     }
 
     fn begin(
         &mut self,
+        random: &mut Random,
         day: &InputData,
         schedule: Scheduling,
-        cached: &CachedAssignment,
+        cached: Memory,
         trace: &Trace,
     ) -> Result<SearchAnswer, Failure> {
-        let Day { bound, greedy, .. } = *self.day;
-        let found = port::begin(day, schedule, self.levels.lend(), bound, greedy, cached);
+        let greedy = boundary::setting(random, self.day.greedy);
+        let (levels, memory) = (self.levels.lend(), CachedAssignment::from(cached));
+        let found = port::begin(day, &schedule, levels, self.day.bound, greedy, &memory);
         let input = || format!("begin {}", trace());
-        wanted(found, begun(self.day, schedule, *cached), input)?;
+        wanted(found, answers::search(begun(self.day, schedule, cached)), input)?;
         wanted(self.levels.changed(), None, input)?;
         Ok(found)
     }
@@ -97,7 +100,7 @@ impl<'a> Walk<'a> {
         &mut self,
         random: &mut Random,
         day: &InputData,
-        search: &Search,
+        search: &port::Search,
         (entry, plan): (Told, &[u8]),
         trace: &Trace,
     ) -> Result<SearchAnswer, Failure> {
@@ -110,7 +113,8 @@ impl<'a> Walk<'a> {
         let mut lent = Guarded::holding(plan);
         let found = port::tell(day, search, self.levels.lend(), result, lent.lend());
         let input = || format!("tell {search:?} {result} {}", trace());
-        wanted(found, told(self.day, search, entry, plan), input)?;
+        let step = told(self.day, &Search::from(*search), entry, plan);
+        wanted(found, answers::search(step), input)?;
         wanted((self.levels.changed(), lent.changed()), (None, None), input)?;
         Ok(found)
     }
@@ -120,12 +124,12 @@ impl<'a> Walk<'a> {
         &mut self,
         random: &mut Random,
         day: &InputData,
-        search: &Search,
+        search: &port::Search,
         trace: &Trace,
     ) -> Outcome {
         let (result, length) = random.pick(&[(FEASIBLE, PLAN), (INFEASIBLE, 0), (2, 0)]);
         // Feasible takes a sound plan, which there is where one was found.
-        let result = if search.found { result } else { result.max(INFEASIBLE) };
+        let result = if search.is_found() { result } else { result.max(INFEASIBLE) };
         let found = port::tell(day, search, self.levels.lend(), result, &search.plan[..length]);
         let input = || format!("after the end {search:?} {}", trace());
         wanted((found, self.levels.changed()), (refused_search(18), None), input)

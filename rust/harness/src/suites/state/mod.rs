@@ -50,7 +50,7 @@ fn one_day(random: &mut Random, features: &mut Features) -> Outcome {
 }
 
 fn look_at_build(features: &mut Features, day: &Day, walk: &Walk, rust: &State) {
-    let is_blocked = day.slots == 0 && walk.state.blocks.contains(&true);
+    let is_blocked = day.slots == 0 && walk.state.blocks.contains(&1);
     features.look("a buffer of the named length", walk.bytes.len() == LISTS);
     features.look("a longer buffer", walk.bytes.len() > LISTS);
     features.look("no slots", day.slots == 0);

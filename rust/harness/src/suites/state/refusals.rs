@@ -21,7 +21,7 @@ const STEPS: usize = 3;
 const TRIES: usize = 5;
 
 /// The numbers by which each call refuses. Its done calls are looked for too.
-const NUMBERS: [Numbers; 3] = [
+pub const NUMBERS: [Numbers; 3] = [
     ("build", &[0, 1, 2, 3, 4, 7, 8, 9, 10, 11]),
     ("update", &[0, 1, 2, 3, 4, 7, 8, 9, 10, 11, 12]),
     ("slot_list", &[0, 1, 2, 3, 4, 7, 8, 9, 10, 11, 12]),

@@ -9,7 +9,7 @@ use crate::run::{Outcome, same, wanted};
 use crate::schedule::Schedule;
 use crate::state::{LISTS, State};
 use port::guarded::Guarded;
-use port::{ScheduleState, SlotListAnswer, StateAnswer};
+use port::{ScheduleState, StateAnswer};
 
 pub struct Walk<'a> {
     pub day: &'a Day,
@@ -45,7 +45,7 @@ impl<'a> Walk<'a> {
         carry(&mut self.bytes, &self.schedule, &rust.schedule);
         let day = boundary::day(random, self.day);
         let schedule = boundary::schedule(random, self.day, schedule);
-        let answer = port::build(&day, schedule, self.lists.lend());
+        let answer = port::build(&day, &schedule, self.lists.lend());
         self.takes("build", answer, rust, &before)
     }
 
@@ -60,7 +60,7 @@ impl<'a> Walk<'a> {
         let day = boundary::day(random, self.day);
         let state = self.handed_on(random);
         let schedule = boundary::schedule(random, self.day, schedule);
-        let answer = port::update(&day, &state, schedule, self.lists.lend());
+        let answer = port::update(&day, &state, &schedule, self.lists.lend());
         self.takes("update", answer, rust, &before)
     }
 
@@ -72,9 +72,8 @@ impl<'a> Walk<'a> {
             let answer = port::slot_list(&day, &state, self.lists.lend(), slot);
             let input =
                 || format!("slot_list {slot} {:?} {:?} {:?}", self.day, self.state, self.bytes);
-            let own = SlotListAnswer { number: 0, start: slot * CHOICES, length: list.len() };
-            same(answer, own, input)?;
-            let part = &self.lists.now()[answer.start..][..answer.length];
+            same(answer, answers::slot_list(slot, list.len()), input)?;
+            let part = &self.lists.now()[answer.range()];
             let part = part.iter().map(|&choice| choice.into()).collect::<Vec<usize>>();
             same(&part, list, input)?;
             wanted(self.lists.differs_from(&self.bytes), None, input)?;
@@ -89,7 +88,7 @@ impl<'a> Walk<'a> {
         State {
             schedule,
             covered: self.state.covered.to_vec(),
-            blocks: self.state.blocks.to_vec(),
+            blocks: self.state.blocks.iter().map(|&block| block != 0).collect(),
             lists: self.bytes.clone(),
         }
     }

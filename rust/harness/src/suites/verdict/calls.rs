@@ -1,17 +1,18 @@
 //! The calls of verdict and score, on guarded input, compared in all that they
 //! give and leave.
 use crate::answers::score_bits;
-use crate::boundary;
+use crate::boundary::{self, lent, lent_day};
 use crate::day::Day;
 use crate::plan::{Plan, rows};
 use crate::random::Random;
+use crate::reading::Layout;
 use crate::recording::{Entry, Note, note};
 use crate::run::{Outcome, wanted};
 use crate::schedule::Schedule;
 use crate::scores::{INFINITE, score_of};
 use oracle::{Problem, calls};
 use port::guarded::Guarded;
-use port::{InputData, Scheduling, Score, ScoreAnswer, ScoreTables, Solution, VerdictAnswer};
+use port::{Score, ScoreAnswer, ScoreTables, Solution, VerdictAnswer};
 
 /// The kinds of a solution. Any other is Invalid.
 pub const SCHEDULING: u32 = 1;
@@ -86,7 +87,7 @@ impl Call {
             Self::Evaluate { .. } => {
                 Answer::Score(ScoreAnswer { number, score: Score { major: 0, minor: 0 } })
             }
-            _ => Answer::Verdict(VerdictAnswer { number, holds: false }),
+            _ => Answer::Verdict(VerdictAnswer { number, holds: 0 }),
         }
     }
 }
@@ -104,7 +105,8 @@ impl Judge<'_> {
     /// The answer of a call that is not refused.
     pub fn answer(&self, call: Call, schedule: &Schedule, plan: &Plan) -> Answer {
         let (day, problem) = (self.day, self.problem);
-        let verdict = |holds| Answer::Verdict(VerdictAnswer { number: 0, holds });
+        let verdict =
+            |holds: bool| Answer::Verdict(VerdictAnswer { number: 0, holds: holds.into() });
         let slots = || &schedule[..day.choices];
         match call {
             Call::SatisfiesScheduling => verdict(calls::satisfies_scheduling(problem, slots())),
@@ -137,20 +139,34 @@ impl Judge<'_> {
 
 pub struct Calls<'a> {
     day: &'a Day,
-    lent_day: InputData,
-    schedule: Scheduling,
+    lent_day: Guarded<u8>,
+    schedule: Guarded<u8>,
     plan: Guarded<u8>,
+    greedy: u32,
     preferences: Guarded<u32>,
     powers: Guarded<f32>,
 }
 
 impl<'a> Calls<'a> {
     pub fn new(random: &mut Random, day: &'a Day, schedule: &Schedule, plan: &[u8]) -> Self {
+        let own = boundary::schedule(random, day, schedule);
+        let lent = [lent_day(random, day), lent(random, Layout::Schedule, &own)];
+        Self::lent(random, day, lent, plan)
+    }
+
+    /// The day and the schedule are lent as these bytes.
+    pub fn lent(
+        random: &mut Random,
+        day: &'a Day,
+        [lent_day, schedule]: [Guarded<u8>; 2],
+        plan: &[u8],
+    ) -> Self {
         Self {
             day,
-            lent_day: boundary::day(random, day),
-            schedule: boundary::schedule(random, day, schedule),
+            lent_day,
+            schedule,
             plan: Guarded::holding(plan),
+            greedy: boundary::setting(random, day.greedy),
             preferences: Guarded::holding(&day.preferences),
             powers: Guarded::holding(&day.powers),
         }
@@ -161,29 +177,30 @@ impl<'a> Calls<'a> {
         note(|| self.noted(call, answer));
         let found = self.make(call);
         let input = || {
-            let (day, schedule, plan) = (self.day, self.schedule.entries, self.plan.now());
+            let (day, schedule, plan) = (self.day, self.schedule.now(), self.plan.now());
             format!("{call:?} of {day:?} schedule {schedule:?} plan {plan:?}")
         };
         wanted(found, answer, input)?;
-        let changes = (self.plan.changed(), self.preferences.changed(), self.powers.changed());
-        wanted(changes, (None, None, None), input)
+        let bytes = [&self.lent_day, &self.schedule, &self.plan].map(Guarded::changed);
+        let changes = (bytes, self.preferences.changed(), self.powers.changed());
+        wanted(changes, ([None; 3], None, None), input)
     }
 
     fn noted(&self, call: Call, answer: Answer) -> Note {
-        let note = |entry, number| Note::new(entry, number).day(&self.lent_day);
+        let note = |entry, number| Note::new(entry, number).day(self.day, self.lent_day.now());
         match (call, answer) {
             (Call::Evaluate { solution }, Answer::Score(answer)) => {
                 let is_infinite = answer.score == port::infinite();
                 let is_usual = call.reads_plan() && !self.day.greedy;
                 let note = note(call.entry(), answer.number).known_by(is_infinite);
                 let note = note.about((!is_usual).then_some(solution.min(COMPLETE + 1)));
-                let note = note.put(&solution).put(&self.schedule);
-                let note = note.table(self.plan.now()).put(&self.day.greedy);
+                let note = note.put(&solution).table(self.schedule.now());
+                let note = note.table(self.plan.now()).put(&self.greedy);
                 note.table(self.preferences.now()).table(self.powers.now()).put(&answer)
             }
             (_, Answer::Verdict(answer)) => {
-                let note = note(call.entry(), answer.number).known_by(answer.holds);
-                let note = note.about(self.lone_kind(call)).put(&self.schedule);
+                let note = note(call.entry(), answer.number).known_by(answer.holds == 1);
+                let note = note.about(self.lone_kind(call)).table(self.schedule.now());
                 let note = if call.reads_plan() { note.table(self.plan.now()) } else { note };
                 note.put(&answer)
             }
@@ -204,7 +221,7 @@ impl<'a> Calls<'a> {
 
     fn make(&mut self, call: Call) -> Answer {
         let Self { lent_day: day, schedule, plan, .. } = self;
-        let (schedule, plan) = (*schedule, plan.lend());
+        let (day, schedule, plan) = (day.lend(), schedule.lend(), plan.lend());
         Answer::Verdict(match call {
             Call::SatisfiesScheduling => port::satisfies_constraints_scheduling(day, schedule),
             Call::ScheduleIsFeasible => port::schedule_is_feasible(day, schedule),
@@ -213,11 +230,12 @@ impl<'a> Calls<'a> {
             }
             Call::IsFeasible => port::is_feasible(day, schedule, plan),
             Call::Evaluate { solution: kind } => {
-                let solution = Solution { kind, schedule, plan };
-                let (preferences, powers) = (self.preferences.lend(), self.powers.lend());
-                let tables = ScoreTables { preferences, powers };
-                let greedy = self.day.greedy;
-                return Answer::Score(port::evaluate(day, solution, greedy, tables));
+                let solution = Solution { kind, schedule: schedule.into(), plan: plan.into() };
+                let tables = ScoreTables {
+                    preferences: self.preferences.lend().into(),
+                    powers: self.powers.lend().into(),
+                };
+                return Answer::Score(port::evaluate(day, solution, self.greedy, tables));
             }
         })
     }

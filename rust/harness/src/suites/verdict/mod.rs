@@ -133,7 +133,7 @@ fn look(features: &mut Features, day: &Day, schedule: &Schedule, call: Call, ans
         return;
     };
     let name = call.name();
-    let (holds, seats) = (verdict.holds, day.choosers * day.slots);
+    let (holds, seats) = (verdict.holds == 1, day.choosers * day.slots);
     features.look(format!("{name}: no"), !holds);
     features.look(format!("{name}: yes, all sizes full"), holds && seats == PLAN);
     features.look(format!("{name}: yes, no slots"), holds && day.slots == 0);
@@ -169,7 +169,7 @@ fn look_at_plan(
     let is_out = rows.iter().any(|row| row.iter().enumerate().any(misfit));
     match answer {
         Answer::Verdict(verdict) => {
-            features.look("a feasible plan out of its columns", verdict.holds && is_out);
+            features.look("a feasible plan out of its columns", verdict.holds == 1 && is_out);
         }
         Answer::Score(answer) => {
             let score = answer.score;

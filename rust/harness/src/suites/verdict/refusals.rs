@@ -8,7 +8,7 @@ use crate::day::{Day, random_day, random_size};
 use crate::features::Features;
 use crate::plan::{PLAN, random_plan};
 use crate::random::Random;
-use crate::reading::{Handed, faults};
+use crate::reading::{Handed, Layout, faults};
 use crate::run::{Days, Outcome, Run};
 use crate::schedule::random_schedule;
 use crate::suites::refused::{self, Numbers, damaged, first};
@@ -20,13 +20,16 @@ const DAYS: Days = Days { usual: 20_000, for_features: 5_000 };
 const TRIES: usize = 5;
 
 /// The numbers by which each call refuses. Its done calls are looked for too.
-const NUMBERS: [Numbers; 5] = [
-    ("satisfies_constraints_scheduling", &[0, 1, 3, 4, 7, 8, 9, 10, 11]),
-    ("schedule_is_feasible", &[0, 1, 3, 4, 7, 8, 9, 10, 11]),
+pub const NUMBERS: [Numbers; 5] = [
+    ("satisfies_constraints_scheduling", &[0, 1, 2, 3, 4, 7, 8, 9, 10, 11]),
+    ("schedule_is_feasible", &[0, 1, 2, 3, 4, 7, 8, 9, 10, 11]),
     ("satisfies_constraints_assignment", &[0, 1, 2, 3, 4, 7, 8, 9, 10, 11, 13]),
     ("is_feasible", &[0, 1, 2, 3, 4, 7, 8, 9, 10, 11, 13]),
     ("evaluate", &[0, 1, 2, 3, 4, 7, 8, 9, 10, 11, 13]),
 ];
+
+/// What each call is lent as bytes of a layout.
+const LAYOUTS: [Layout; 2] = [Layout::Day, Layout::Schedule];
 
 pub fn run(run: &mut Run) {
     refused::each_day(run, DAYS, &damage::of_verdicts(), &NUMBERS, one_day);
@@ -67,18 +70,22 @@ fn one_call(
         day: Some(day),
         preferences: call.reads_tables().then_some(&day.preferences),
         powers: call.reads_tables().then_some(&day.powers),
+        layouts: &input.layouts(&LAYOUTS),
         schedule: Some(schedule),
         plan: Some(plan),
         ..Handed::default()
     };
+    let layouts = if call.reads_schedule() { &LAYOUTS[..] } else { &LAYOUTS[..1] };
     let handed = Handed {
+        layouts: &input.layouts(layouts),
         schedule: all.schedule.filter(|_| call.reads_schedule()),
         plan: all.plan.filter(|_| call.reads_plan()),
         ..all
     };
     let number = first(features, call.name(), &faults(&handed));
     look(features, call, &faults(&all), number);
-    let mut calls = Calls::new(random, day, schedule, plan);
+    let lent = LAYOUTS.map(|layout| input.lend(random, layout));
+    let mut calls = Calls::lent(random, day, lent, plan);
     if number > 0 {
         return calls.gives(call, call.refused(number));
     }

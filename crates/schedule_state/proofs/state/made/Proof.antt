@@ -1,0 +1,19 @@
+use Rattle.input_data.specs.Bytes.{dayOf}
+use Rattle.schedule_state.specs.Blocks.{unfilled, blocks-table}
+use Rattle.schedule_state.specs.State.{blockedAt}
+use Rattle.schedule_state.proofs.state.made.Statement.{statement}
+use Rattle.schedule_state.proofs.state.made.Tie as tie
+use Rattle.schedule_state.proofs.state.made.Reads as reads
+use Rattle.schedule_state.proofs.state.made.Lts as lts
+use Rattle.schedule_state.proofs.blocks.fill_blocks.Reads as fill-blocks-reads
+
+-- src/state.rt:46:5
+fill-blocks-requires : tie.Need-fill-blocks-requires
+fill-blocks-requires c κs = (c .before .before .before .pre .0, unfilled (c .before .before .before .pre .1))
+
+-- src/state.rt:36:1
+returns : tie.Need-returns
+returns c = let a = c .before .before .before .before .args in rw (blocks-table (blockedAt (dayOf (a .day .now)) (a .entries .now)) _ (c .fill-blocks .ensures))
+
+pub made-spec : {M : Type 1} → statement M
+made-spec = tie.close (tie.spec fill-blocks-requires returns)
