@@ -126,8 +126,9 @@ typedef struct {
  * asked, the ask that waits too. start, low and high are indices of levels; a
  * greedy search has none.
  * found: plan is the best so far, and level the level that it was found at (0
- * where it was remembered). optimal: no ask was answered by Incomplete, and a
- * greedy one by nothing but Feasible. cached is what a later search remembers. */
+ * where it was remembered). optimal: no ask was answered by Incomplete; a greedy
+ * search has it only once it was answered by Feasible. cached is what a later
+ * search remembers. */
 typedef struct {
     uint8_t asking;
     uint8_t greedy;

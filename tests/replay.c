@@ -3,7 +3,7 @@
  *     cc -std=c11 -O1 -Iinclude tests/replay.c target/staticlib/libseating.a -o replay
  *     ./replay tests/records.bin
  *
- * rust/harness/src/records/calls.rs writes the file and tells its form. Answers
+ * rust/harness/src/records.rs writes the file and tells its form. Answers
  * are compared field by field, states and searches byte by byte; of every lent
  * slice each byte is compared, and those before and behind it. The last line is
  * 'replay: N records, M failed'. */

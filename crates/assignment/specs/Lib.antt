@@ -1,4 +1,4 @@
--- assignment.rs: plans, check 13, rosters.
+-- assignment.rs: plans, check 13, a chooser's choices.
 pub mod Plan
 pub mod Calls
 pub mod Laws

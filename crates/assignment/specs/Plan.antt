@@ -43,11 +43,11 @@ keptPlan seats plan = tableTo 512 (keptSeat seats plan)
 abbrev pub isSeat : List ℕ → ℕ → ℕ → ℕ → Bool
 isSeat plan base k s = eqb (entryAt plan (base + s)) k
 
-abbrev pub seat : List ℕ → ℕ → ℕ → ℕ → ℕ → List ℕ
-seat plan base k v s = onlyIf (isSeat plan base k s) (v ∷ [])
+abbrev pub seatOnce : List ℕ → ℕ → ℕ → ℕ → ℕ → List ℕ
+seatOnce plan base k v s = onlyIf (isSeat plan base k s) (v ∷ [])
 
 unfoldable pub row : ℕ → List ℕ → ℕ → ℕ → ℕ → List ℕ
-row slots plan base k v = joinTo slots (seat plan base k v)
+row slots plan base k v = joinTo slots (seatOnce plan base k v)
 
 -- choosers_ordered: the choosers upward, each once for each slot in which it is in the choice
 abbrev pub rosterRow : ℕ → List ℕ → ℕ → ℕ → List ℕ

@@ -87,13 +87,13 @@ pub fn plan_number(limits: Limits, day: &[u8], plan: &[u8], short: bool, asked: 
     ensures { λ r. ⌜ r ≡ planNumber limits (dayOf (old day)) (old plan) short asked ⌝ }
 {
     let beside = Beside {
-        lengths: (plan.len() != limits.choosers * limits.slots) | short,
-        preferences: false,
-        levels: false,
-        costs: false,
-        asked: asked,
+        bad_lengths: (plan.len() != limits.choosers * limits.slots) | short,
+        bad_preferences: false,
+        bad_levels: false,
+        bad_costs: false,
+        bad_asked: asked,
     };
-    let number = input_data::day_number(limits, day, beside, 0);
+    let number = day_checks::day_number(limits, day, beside, 0);
     if number != 0 {
         return number;
     }

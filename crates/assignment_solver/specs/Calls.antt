@@ -1,98 +1,34 @@
 -- What the calls begin and tell give, refused or done. Definitions only.
 use Prim.Native.Nat.{ℕ}
-use mathlib.Core.Bool.{Bool, false, cond, not, _&&_, _||_}
+use mathlib.Core.Bool.{Bool, cond}
 use mathlib.Core.List.{List}
-use lib.Dec.{eqb, ltb, leb}
-use lib.ListN.{length}
-use Rattle.assignment.specs.Calls.{seats}
-use Rattle.assignment.specs.Plan.{badPlanFor}
-use Rattle.input_data.specs.Bytes.{dayOf, lentNumber}
-use Rattle.input_data.specs.Checks.{firstOf, dayNumber, badLevels}
-use Rattle.input_data.specs.Lengths.{planLength}
+use lib.Dec.{eqb}
+use Rattle.input_data.specs.Bytes.{dayOf}
 use Rattle.input_data.specs.declared.Limits.{Limits}
 use Rattle.input_data.specs.declared.InputData.{InputData}
-use Rattle.input_data.specs.declared.checks.Beside.{Beside}
-use Rattle.scheduling.specs.Handed.{scheduleOf, notSchedule, outside}
+use Rattle.scheduling.specs.Handed.{scheduleOf}
 use Rattle.scheduling.specs.declared.Scheduling.{Scheduling}
-use Rattle.assignment_solver.specs.Search.{Told, isFeasible}
-use Rattle.assignment_solver.specs.Bytes.{notCached, notSearch, cachedIn, searchIn}
-use Rattle.assignment_solver.specs.Steps.{refused, begunAnswer, toldAnswer}
-use Rattle.assignment_solver.specs.declared.CachedAssignment.{CachedAssignment}
-use Rattle.assignment_solver.specs.declared.Search.{Search}
-use Rattle.assignment_solver.specs.declared.SearchAnswer.{SearchAnswer}
+use Rattle.preference_search.specs.Search.{Told}
+use Rattle.preference_search.specs.Bytes.{cachedIn, searchIn}
+use Rattle.preference_search.specs.Steps.{searchRefused, begunAnswer, toldAnswer}
+use Rattle.preference_search.specs.declared.CachedAssignment.{CachedAssignment}
+use Rattle.preference_search.specs.declared.Search.{Search}
+use Rattle.preference_search.specs.declared.SearchAnswer.{SearchAnswer}
+use Rattle.preference_search_checks.specs.Checks.{beginNumber, tellNumber, beginLentNumber, tellLentNumber}
 
--- what these calls test beside the day: the levels, and a told plan's length
-abbrev pub besideLevels : InputData → List ℕ → Bool → Beside
-besideLevels d levels wrong = record { lengths = wrong; preferences = false; levels = badLevels (d .«max_preference») levels; costs = false; asked = false }
-
--- 13 of a plan that is there, beside its schedule
-abbrev pub badIf : InputData → Bool → Scheduling → List ℕ → Bool
-badIf d there sch plan = there && badPlanFor (d .choices) (seats d) (sch .entries) plan
-
--- 11 and 13 of what is remembered, if anything is
-abbrev pub outsideCached : InputData → CachedAssignment → Bool
-outsideCached d c = c .there && outside d (c .schedule)
-
-abbrev pub badCached : InputData → CachedAssignment → Bool
-badCached d c = badIf d (c .there) (c .schedule) (c .plan)
-
-unfoldable pub beginNumber : Limits → InputData → Scheduling → List ℕ → CachedAssignment → ℕ
-beginNumber l d sch levels c =
-    dayNumber l d (besideLevels d levels false)
-    (firstOf (outside d sch || outsideCached d c) 11
-    (firstOf (badCached d c) 13 0))
-
--- 18. it has ended, or its range is not within its start and the last level, or it has counted more than 256 asks; a greedy search has no range
-abbrev pub badRange : ℕ → ℕ → ℕ → ℕ → Bool
-badRange start low high count = ltb low start || ltb high low || leb count high
-
-unfoldable pub spentAt : Bool → Bool → ℕ → ℕ → ℕ → ℕ → ℕ → Bool
-spentAt asking greedy asks start low high count = not asking || ltb 256 asks || (not greedy && badRange start low high count)
-
-abbrev pub spent : Search → ℕ → Bool
-spent s count = spentAt (s .asking) (s .greedy) (s .asks) (s .start) (s .low) (s .high) count
-
--- a told plan is looked at where the result is feasible
-abbrev pub wrongLength : Limits → Told → Bool
-wrongLength l t = isFeasible (t .result) && not (eqb (length (t .plan)) (planLength l))
-
--- 13 of the told plan and of the best so far
-abbrev pub badPlans : InputData → Search → Told → Bool
-badPlans d s t = badIf d (isFeasible (t .result)) (s .schedule) (t .plan) || badIf d (s .found) (s .schedule) (s .plan)
-
--- .. and of what is remembered
-abbrev pub badTold : InputData → Search → Told → Bool
-badTold d s t = badPlans d s t || badCached d (s .cached)
-
--- 11, 13 and 18 of what a search holds and is told
-unfoldable pub heldNumber : InputData → Search → ℕ → Told → ℕ
-heldNumber d s count t =
-    firstOf (outside d (s .schedule) || outsideCached d (s .cached)) 11
-    (firstOf (badTold d s t) 13
-    (firstOf (spent s count) 18 0))
-
-unfoldable pub tellNumber : Limits → InputData → Search → List ℕ → Told → ℕ
-tellNumber l d s levels t = dayNumber l d (besideLevels d levels (wrongLength l t)) (heldNumber d s (length levels) t)
-
-abbrev pub answerOf : ℕ → SearchAnswer → SearchAnswer
-answerOf n done = cond (eqb n 0) done (refused n)
+abbrev pub searchAnswerOf : ℕ → SearchAnswer → SearchAnswer
+searchAnswerOf n done = cond (eqb n 0) done (searchRefused n)
 
 unfoldable pub beginAnswer : Limits → InputData → Scheduling → List ℕ → ℕ → Bool → CachedAssignment → SearchAnswer
-beginAnswer l d sch levels bound greedy c = answerOf (beginNumber l d sch levels c) (begunAnswer d sch levels bound greedy c)
+beginAnswer l d sch levels bound greedy c = searchAnswerOf (beginNumber l d sch levels c) (begunAnswer d sch levels bound greedy c)
 
 unfoldable pub tellAnswer : Limits → InputData → Search → List ℕ → Told → SearchAnswer
-tellAnswer l d s levels t = answerOf (tellNumber l d s levels t) (toldAnswer d s levels t)
+tellAnswer l d s levels t = searchAnswerOf (tellNumber l d s levels t) (toldAnswer d s levels t)
 
 -- ---- on lent bytes
 
-abbrev pub beginLentNumber : Limits → List ℕ → List ℕ → List ℕ → List ℕ → ℕ
-beginLentNumber l day sch levels c = lentNumber l day (notSchedule sch || notCached c) (beginNumber l (dayOf day) (scheduleOf sch) levels (cachedIn c))
-
 unfoldable pub beginLent : Limits → List ℕ → List ℕ → List ℕ → ℕ → Bool → List ℕ → SearchAnswer
-beginLent l day sch levels bound greedy c = answerOf (beginLentNumber l day sch levels c) (begunAnswer (dayOf day) (scheduleOf sch) levels bound greedy (cachedIn c))
-
-abbrev pub tellLentNumber : Limits → List ℕ → List ℕ → List ℕ → Told → ℕ
-tellLentNumber l day s levels t = lentNumber l day (notSearch s) (tellNumber l (dayOf day) (searchIn s) levels t)
+beginLent l day sch levels bound greedy c = searchAnswerOf (beginLentNumber l day sch levels c) (begunAnswer (dayOf day) (scheduleOf sch) levels bound greedy (cachedIn c))
 
 unfoldable pub tellLent : Limits → List ℕ → List ℕ → List ℕ → Told → SearchAnswer
-tellLent l day s levels t = answerOf (tellLentNumber l day s levels t) (toldAnswer (dayOf day) (searchIn s) levels t)
+tellLent l day s levels t = searchAnswerOf (tellLentNumber l day s levels t) (toldAnswer (dayOf day) (searchIn s) levels t)

@@ -1,33 +1,34 @@
 // A search is told the answer to its ask.
-use crate::LimitSolveResult;
-use crate::SearchAnswer;
-use crate::bytes::cached_of;
-use crate::bytes::seats;
-use crate::numbers::tell_number;
-use crate::steps::ask_again;
-use crate::steps::end;
-use crate::steps::ends_at;
-use crate::steps::go_on;
-use crate::steps::high_after;
-use crate::steps::is_feasible;
-use crate::steps::is_infeasible;
-use crate::steps::learn;
-use crate::steps::learn_greedy;
-use crate::steps::low_after;
-use crate::steps::middle_of;
-use crate::steps::refuse;
 use input_data::Limits;
 use input_data::flag;
 use input_data::word;
+use preference_search::LimitSolveResult;
+use preference_search::SearchAnswer;
+use preference_search::cached_of;
+use preference_search::ends_at;
+use preference_search::high_after;
+use preference_search::is_feasible;
+use preference_search::is_infeasible;
+use preference_search::learn;
+use preference_search::learn_greedy;
+use preference_search::low_after;
+use preference_search::middle_of;
+use preference_search::seats;
+use preference_search_checks::tell_number;
+use preference_search_steps::ask_again;
+use preference_search_steps::end;
+use preference_search_steps::go_on;
+use preference_search_steps::refuse;
 ghost use mathlib.Core.Path.{_≡_};
 ghost use Rattle.counting.specs.Lent.{old};
 ghost use Rattle.input_data.specs.Bytes.{dayOf};
 ghost use Rattle.input_data.specs.Lengths.{Within, fullDay};
-ghost use Rattle.assignment_solver.specs.Search.{told};
-ghost use Rattle.assignment_solver.specs.Steps.{toldGreedy, toldRange};
+ghost use Rattle.preference_search.specs.Bytes.{searchIn};
+ghost use Rattle.preference_search.specs.Laws.{Ranged};
+ghost use Rattle.preference_search.specs.Search.{told};
+ghost use Rattle.preference_search.specs.Steps.{toldGreedy, toldRange};
 ghost use Rattle.assignment_solver.specs.Calls.{tellLent};
-ghost use Rattle.assignment_solver.specs.Numbers.{Telling, Ranged};
-ghost use Rattle.assignment_solver.specs.Bytes.{searchIn};
+ghost use Rattle.preference_search_checks.specs.Numbers.{Telling};
 
 // The answer to a greedy ask ends the search.
 fn tell_greedy(day: &[u8], search: &[u8], result: LimitSolveResult, plan: &[u8]) -> SearchAnswer

@@ -35,21 +35,21 @@ negatedKind ChoiceNotContainsChooser = ChoiceContainsChooser
 abbrev pub constraint : ConstraintType → ℕ → ConstraintTarget → ConstraintExtra → Constraint
 constraint k l t x = record { kind = k; left = l; right = t; extra = x }
 
-abbrev pub answer : ℕ → Constraint → NegationAnswer
-answer n c = record { number = n; constraint = c }
+abbrev pub negationAnswer : ℕ → Constraint → NegationAnswer
+negationAnswer n c = record { number = n; constraint = c }
 
 -- a refusal: its number, and zeros
-abbrev pub refused : ℕ → NegationAnswer
-refused n = answer n (constraint Invalid 0 Target.None Extra.None)
+abbrev pub negationRefused : ℕ → NegationAnswer
+negationRefused n = negationAnswer n (constraint Invalid 0 Target.None Extra.None)
 
 -- the constraint with its kind negated and another extra; left and target are kept
 abbrev pub negatedWith : Constraint → ConstraintExtra → NegationAnswer
-negatedWith c x = answer 0 (constraint (negatedKind (c .kind)) (c .left) (c .right) x)
+negatedWith c x = negationAnswer 0 (constraint (negatedKind (c .kind)) (c .left) (c .right) x)
 
 -- a size limit negates its operator; without one it is refused by 9
 abbrev pub sizeLimitNegation : Constraint → ConstraintExtra → NegationAnswer
-sizeLimitNegation c Extra.None = refused 9
-sizeLimitNegation c (Extra.Offset z) = refused 9
+sizeLimitNegation c Extra.None = negationRefused 9
+sizeLimitNegation c (Extra.Offset z) = negationRefused 9
 sizeLimitNegation c (Extra.SlotSizeLimitOp o) = negatedWith c (Extra.SlotSizeLimitOp (negatedOperator o))
 
 unfoldable pub negationOf : Constraint → NegationAnswer

@@ -12,7 +12,7 @@ use Rattle.counting.specs.Ints.{eqZ}
 use Rattle.counting.specs.Tests.{eq-cases, bool-cases, never, and-split}
 use Rattle.constraint.specs.Kind.{kindNumber, kinds, kindIn, kindOf, isSizeLimit}
 use Rattle.constraint.specs.Cases.{operatorNumber, negatedOperator, operatorOf, targetCase, targetOperand, targetOf, extraCase, extraOperand, extraOf}
-use Rattle.constraint.specs.Negation.{refused, negatedWith, sizeLimitNegation, negationOf, constraintOf}
+use Rattle.constraint.specs.Negation.{negationRefused, negatedWith, sizeLimitNegation, negationOf, constraintOf}
 use Rattle.constraint.specs.declared.ConstraintType.{ConstraintType}
 use Rattle.constraint.specs.declared.SlotSizeLimitOp.{SlotSizeLimitOp}
 use Rattle.constraint.specs.declared.SlotSizeLimitOp.the-variants.{Eq, Gt, Geq, Neq, Leq, Lt}
@@ -109,7 +109,7 @@ no-limit : (k : ℕ) → (k ≡ 6 → ⊥) → isSizeLimit (kindOf k) ≡ false
 unfolding kindOf
 no-limit k n = ne-eqb (kindNumber (kindIn kinds k)) 6 (kind-in kinds k 6 n (λ e. omega arith))
 
-limit-refused : (c : Constraint) (x : ℕ) (z : ℤ) → hasOperator x z ≡ false → sizeLimitNegation c (extraOf x z) ≡ refused 9
+limit-refused : (c : Constraint) (x : ℕ) (z : ℤ) → hasOperator x z ≡ false → sizeLimitNegation c (extraOf x z) ≡ negationRefused 9
 limit-refused c x z h =
     eq-cases x 1 (λ p e. rw p) (λ p₁ e₁.
     eq-cases x 2 (λ p e. rw (p, no-operator z (rw p at h))) (λ p₂ e₂. rw (e₁, e₂)))
@@ -125,7 +125,7 @@ negated-case-is x z h = let p : (eqb x 2 ≡ true) × (isOperator z ≡ true) = 
 
 -- the negation of a constraint in numbers: a size limit without an operator, one with, and every other kind
 module _ (k l t n x : ℕ) (z : ℤ) where
-  pub negation-refused : k ≡ 6 → hasOperator x z ≡ false → negationOf (constraintOf k l t n x z) ≡ refused 9
+  pub negation-refused : k ≡ 6 → hasOperator x z ≡ false → negationOf (constraintOf k l t n x z) ≡ negationRefused 9
   unfolding negationOf kindOf
   negation-refused e h = rw e (limit-refused (constraintOf 6 l t n x z) x z h)
 

@@ -4,7 +4,7 @@ pub mod numbers;
 ghost use mathlib.Core.Path.{_≡_};
 ghost use Rattle.constraint.specs.Kind.{kindNumber, kindOf, isValid, isScheduling, isAssignment};
 ghost use Rattle.constraint.specs.Cases.{operatorNumber, operatorOf, negatedOperator, targetCase, targetOperand, targetOf, extraCase, extraOperand, extraOf};
-ghost use Rattle.constraint.specs.Negation.{negatedKind, refused, negatedWith, sizeLimitNegation, negationOf, constraint, constraintOf};
+ghost use Rattle.constraint.specs.Negation.{negatedKind, negationRefused, negatedWith, sizeLimitNegation, negationOf, constraint, constraintOf};
 
 // The least number of an assignment constraint.
 pub const CONSTRAINT_TYPE_DISCRIMINATION_LIMIT: u32 = 65536;
@@ -276,7 +276,7 @@ impl ConstraintExtra {
 
 // A refused negation: the number, and zeros.
 fn refuse(number: u32) -> NegationAnswer
-    ensures { λ r. ⌜ r ≡ refused number ⌝ }
+    ensures { λ r. ⌜ r ≡ negationRefused number ⌝ }
 {
     let none = Constraint {
         kind: ConstraintType::Invalid,

@@ -1,10 +1,8 @@
--- What is made of f 0, f 1, .., f (n - 1). One recursion, with its laws, and the names of its uses. Assumes nothing.
+-- What is made of f 0, f 1, .., f (n - 1): one recursion, and the names of its uses. Definitions only.
 use Prim.Native.Nat.{ℕ, zero, suc, _+_, _<_}
-use mathlib.Core.Path.{_≡_, refl, ap, ap₂}
 use mathlib.Core.Bool.{Bool, true, false, cond, _&&_, _||_}
 use mathlib.Core.List.{List, [], _∷_, _++_}
-use native.Mathlib.Numerals.{add-one}
-use native.Mathlib.Omega.{arith}
+use lib.Dec.{ltb}
 use lib.IntN.{ℤ, pos, _+ℤ_}
 
 module _ {ℓ ℓ′} {A : Type ℓ} {B : Type ℓ′} where
@@ -12,28 +10,6 @@ module _ {ℓ ℓ′} {A : Type ℓ} {B : Type ℓ′} where
   unfoldable pub foldTo : (A → B → A) → A → ℕ → (ℕ → B) → A
   foldTo op start zero f = start
   foldTo op start (suc n) f = op (foldTo op start n f) (f n)
-
-  pub fold-none : (op : A → B → A) (start : A) (f : ℕ → B) → foldTo op start 0 f ≡ start
-  unfolding foldTo
-  fold-none op start f = refl
-
-  pub fold-suc : (op : A → B → A) (start : A) (n : ℕ) (f : ℕ → B) → foldTo op start (suc n) f ≡ op (foldTo op start n f) (f n)
-  unfolding foldTo
-  fold-suc op start n f = refl
-
-  -- the step, as code counts
-  pub fold-more : (op : A → B → A) (start : A) (n : ℕ) (f : ℕ → B) → foldTo op start (n + 1) f ≡ op (foldTo op start n f) (f n)
-  unfolding foldTo
-  fold-more op start n f = rw add-one
-
-  pub fold-at : (op : A → B → A) (start : A) (f : ℕ → B) {m n : ℕ} → m ≡ n → foldTo op start m f ≡ foldTo op start n f
-  fold-at op start f e = ap (λ k. foldTo op start k f) e
-
-  -- only the elements below n are read
-  pub fold-ext : (op : A → B → A) (start : A) (n : ℕ) (f g : ℕ → B) → ((k : ℕ) → k < n → f k ≡ g k) → foldTo op start n f ≡ foldTo op start n g
-  unfolding foldTo
-  fold-ext op start zero f g h = refl
-  fold-ext op start (suc n) f g h = ap₂ op (fold-ext op start n f g (λ k l. h k (omega arith))) (h n (omega arith))
 
 -- a number where a test holds, and 0 elsewhere
 abbrev pub gate : Bool → ℕ → ℕ
@@ -71,3 +47,12 @@ module _ {ℓ} {A : Type ℓ} where
   -- the list f 0, f 1, .., f (n - 1)
   abbrev pub tableTo : ℕ → (ℕ → A) → List A
   tableTo n f = joinTo n (λ k. f k ∷ [])
+
+-- k is below n, and a test finds it at fault
+abbrev pub faultBelow : ℕ → (ℕ → Bool) → ℕ → Bool
+faultBelow n f k = ltb k n && f k
+
+-- some k < n is at fault; of an array of `most` places no more than these are looked at
+unfoldable pub someBelow : ℕ → ℕ → (ℕ → Bool) → Bool
+unfolding foldTo
+someBelow most n f = anyTo most (faultBelow n f)

@@ -1,5 +1,5 @@
--- Whether two integers are equal. Assumes nothing.
-use mathlib.Core.Bool.{Bool, true, false}
+-- Whether two integers are equal. Definitions only.
+use mathlib.Core.Bool.{Bool, false}
 use lib.Dec.{eqb}
 use lib.IntN.{ℤ, pos, negsuc}
 

@@ -3,14 +3,15 @@ use Prim.Native.Nat.{ℕ, zero, suc, _+_, _*_, _<_, _≤_, min, zero-le}
 use mathlib.Core.Path.{_≡_, refl, sym, ap, _∙_}
 use mathlib.Core.Bool.{Bool, true, false}
 use mathlib.Core.List.{List, [], _∷_, _++_}
-use native.Mathlib.Nat.{suc-mul, le-of-eq}
+use native.Mathlib.Nat.{le-of-eq}
 use native.Mathlib.Numerals.{add-one}
 use native.Mathlib.Omega.{arith}
 use lib.Dec.{ltb}
 use lib.ListN.{length, getD, set, take, replicate, length-append, length-set, length-replicate, getD-replicate, List·getD-append, List·getD-eq-default}
 use borrow.Author.Tests.{lt-ltb, le-ltb}
 use lib.Seq.{take-all, take-suc-set, getD-at, ext-getD, getD-set-same, getD-set-other}
-use Rattle.counting.specs.Fold.{foldTo, fold-none, fold-suc, fold-more, gate, sumTo, onlyIf, joinTo, tableTo}
+use Rattle.counting.specs.Fold.{foldTo, gate, sumTo, onlyIf, joinTo, tableTo}
+use Rattle.counting.specs.FoldLaws.{fold-none, fold-suc, fold-more}
 use Rattle.counting.specs.Sums.{sum-le, sum-const}
 use Rattle.counting.specs.Tests.{eq-cases, lt-cases}
 

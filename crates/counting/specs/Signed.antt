@@ -1,15 +1,15 @@
 -- Signed numbers and the bits that hold them: differences, and tests on bits. Assumes nothing.
-use Prim.Native.Nat.{ℕ, zero, suc, _+_, _-_, _<_, _≤_, _^_}
+use Prim.Native.Nat.{ℕ, zero, suc, _-_, _<_, _≤_, _^_}
 use mathlib.Core.Path.{_≡_, refl, sym, ap, _∙_, subst}
 use mathlib.Core.Bool.{Bool, true, false, cond}
 use native.Mathlib.Omega.{arith}
 use native.Mathlib.Nat.{add-zero}
-use borrow.Author.Tests.{ltb-true, eqb-true, eqb-false, eq-eqb, ne-eqb}
+use borrow.Author.Tests.{ltb-true, eqb-true, eq-eqb, ne-eqb}
 use lib.Dec.{ltb, eqb}
 use lib.IntN.{ℤ, pos, negsuc, negℤ, _-ℤ_, +ℤ-idl}
 use lib.Signed.{mag}
-use mir.Syntax.{Width, w32}
-use mir.Val.{SFits, toZ, ofZ, bits, hbits}
+use mir.Syntax.{Width}
+use mir.Val.{SFits, toZ, ofZ, hbits}
 use mir.Facts.{toZ-pos, toZ-ofZ}
 use Rattle.counting.specs.Ints.{eqZ}
 use Rattle.counting.specs.Tests.{bool-cases, never}
@@ -67,3 +67,6 @@ pub bits-eqb : (w : Width) (a b : ℤ) → mag a < 2 ^ hbits w → mag b < 2 ^ h
 bits-eqb w a b h k = bool-cases (eqZ a b)
     (λ t. eq-eqb (ofZ w a) (ofZ w b) (ap (ofZ w) (same-eqZ a b t)) ∙ sym t)
     (λ t. ne-eqb (ofZ w a) (ofZ w b) (λ e. never (sym (eqZ-same a b (bits-same w a b h k e)) ∙ t)) ∙ sym t)
+
+pub bits-differ : (w : Width) (a b : ℤ) → mag a < 2 ^ hbits w → mag b < 2 ^ hbits w → (ofZ w a ≡ ofZ w b → ⊥) → eqZ a b ≡ false
+bits-differ w a b h k n = sym (bits-eqb w a b h k) ∙ ne-eqb (ofZ w a) (ofZ w b) n

@@ -1,18 +1,15 @@
 -- Laws of bounded sums and counts. Assumes nothing.
 use Prim.Native.Nat.{ℕ, zero, suc, _+_, _*_, _≤_, _<_, min, zero-le}
 use mathlib.Core.Path.{_≡_, refl, sym, ap, _∙_}
-use mathlib.Core.Bool.{Bool, true, false, cond}
+use mathlib.Core.Bool.{Bool, true, false}
 use mathlib.Core.Logic.{_≢_}
 use native.Mathlib.Nat.{le-antisymm, le-refl, suc-mul, mul-le-mul-right}
 use native.Mathlib.Omega.{arith}
 use lib.Dec.{eqb, ltb}
 use borrow.Author.Tests.{ne-eqb, lt-ltb}
-use Rattle.counting.specs.Fold.{foldTo, fold-none, fold-ext, fold-suc, gate, sumTo, countTo}
+use Rattle.counting.specs.Fold.{foldTo, gate, sumTo, countTo}
+use Rattle.counting.specs.FoldLaws.{fold-none, fold-ext, fold-suc}
 use Rattle.counting.specs.Tests.{eq-cases, lt-cases}
-
--- the next summand, as a loop adds it
-pub sum-next : (n : ℕ) (f : ℕ → ℕ) {a b : ℕ} → a ≡ sumTo n f → b ≡ f n → a + b ≡ sumTo (suc n) f
-sum-next n f p q = rw (fold-suc, ← p, ← q)
 
 pub sum-zeros : (n : ℕ) (f : ℕ → ℕ) → ((k : ℕ) → k < n → f k ≡ 0) → sumTo n f ≡ 0
 unfolding foldTo

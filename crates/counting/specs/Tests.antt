@@ -1,20 +1,17 @@
 -- Tests: taken apart, and over the indices below a bound. Assumes nothing.
 use Prim.Native.Nat.{ℕ, zero, suc, _+_, _<_, _≤_, min}
 use mathlib.Core.Path.{_≡_, refl, sym, ap, _∙_}
-use mathlib.Core.Bool.{Bool, true, false, not, _&&_, _||_, and-false, or-true}
+use mathlib.Core.Bool.{Bool, true, false, not, _&&_, _||_}
 use mathlib.Core.Logic.{_≢_}
 use native.Mathlib.Omega.{arith}
 use lib.Dec.{eqb, ltb}
 use borrow.Author.Tests.{eqb-true, eqb-false, eq-eqb, ne-eqb, ltb-true, ltb-false, lt-ltb}
-use Rattle.counting.specs.Fold.{foldTo, fold-none, fold-suc, fold-more, fold-ext, allTo, anyTo}
+use Rattle.counting.specs.Fold.{faultBelow, someBelow, foldTo, allTo, anyTo}
+use Rattle.counting.specs.FoldLaws.{fold-suc, fold-more, fold-ext}
 
 -- a call gave r, which its contract says is a, and a test found it to be v
 pub so {ℓ} : {A : Type ℓ} {r a v : A} → r ≡ a → r ≡ v → a ≡ v
 so p q = sym p ∙ q
-
--- the same for a test of two calls' results
-pub so-or : {r s a b t : Bool} → r ≡ a → s ≡ b → (r || s) ≡ t → (a || b) ≡ t
-so-or p q e = rw (← p, ← q) e
 
 -- two constructors of Bool are not equal
 pub never {ℓ} : {G : Type ℓ} → true ≡ false → G
@@ -54,10 +51,6 @@ unfolding foldTo
 each-all zero f h = refl
 each-all (suc n) f h = rw (each-all n f (λ k l. h k (omega arith)), h n (omega arith))
 
--- one fails: not all pass
-pub one-fails : (n : ℕ) (f : ℕ → Bool) (k : ℕ) → k < n → f k ≡ false → allTo n f ≡ false
-one-fails n f k l e = bool-cases (allTo n f) (λ t. never (sym (all-each n f t k l) ∙ e)) (λ t. t)
-
 -- none passes: each fails
 pub none-each : (n : ℕ) (f : ℕ → Bool) → anyTo n f ≡ false → (k : ℕ) → k < n → f k ≡ false
 none-each zero f e k l = absurd (omega arith)
@@ -87,15 +80,6 @@ some-passes (suc n) f e = bool-cases (f n)
     (λ t. let p : Passes n f = some-passes n f (bool-cases (anyTo n f) (λ u. u) (λ u. never (sym e ∙ fold-suc _||_ false n f ∙ rw (u, t)))) in
     record { at = p .at; below = omega (arith, p .below); holds = p .holds })
 
--- k is below n, and a test finds it at fault
-abbrev pub faultBelow : ℕ → (ℕ → Bool) → ℕ → Bool
-faultBelow n f k = ltb k n && f k
-
--- some k < n is at fault; of an array of `most` places no more than these are looked at
-unfoldable pub someBelow : ℕ → ℕ → (ℕ → Bool) → Bool
-unfolding foldTo
-someBelow most n f = anyTo most (faultBelow n f)
-
 pub below-each : (most n : ℕ) (f : ℕ → Bool) → n ≤ most → someBelow most n f ≡ false → (k : ℕ) → k < n → f k ≡ false
 unfolding someBelow
 below-each most n f h e k l = rw (lt-ltb k n l) at (none-each most (faultBelow n f) e k (omega arith))
@@ -103,17 +87,6 @@ below-each most n f h e k l = rw (lt-ltb k n l) at (none-each most (faultBelow n
 pub each-below : (most n : ℕ) (f : ℕ → Bool) → ((k : ℕ) → k < n → f k ≡ false) → someBelow most n f ≡ false
 unfolding someBelow
 each-below most n f h = each-none most (faultBelow n f) (λ k l. lt-cases k n (λ b e. rw e (h k b)) (λ b e. rw e))
-
--- a loop over such an array: nothing yet, one place more, all
-pub fault-none : (n : ℕ) (f : ℕ → Bool) → false ≡ anyTo 0 (faultBelow n f)
-fault-none n f = sym (fold-none _||_ false (faultBelow n f))
-
-pub fault-more : (n i : ℕ) (f : ℕ → Bool) {bad t : Bool} → bad ≡ anyTo i (faultBelow n f) → t ≡ f i → (bad || (ltb i n && t)) ≡ anyTo (i + 1) (faultBelow n f)
-fault-more n i f p q = rw (fold-more _||_ false i (faultBelow n f), p, q)
-
-pub fault-all : (most n : ℕ) (f : ℕ → Bool) {i : ℕ} {bad : Bool} → i ≡ most → bad ≡ anyTo i (faultBelow n f) → bad ≡ someBelow most n f
-unfolding someBelow
-fault-all most n f e p = rw e at p
 
 -- a loop that tests every index: one more
 pub any-more : (i : ℕ) (f : ℕ → Bool) {bad t : Bool} → bad ≡ anyTo i f → t ≡ f i → (bad || t) ≡ anyTo (i + 1) f

@@ -7,7 +7,8 @@ use mathlib.Core.Bool.{Bool, true, false, not}
 use mathlib.Core.List.{List, [], _∷_, _++_, append-nil}
 use lib.Dec.{ltb, eqb}
 use lib.ListN.{length, length-append}
-use Rattle.counting.specs.Fold.{foldTo, onlyIf, joinTo, sumTo, fold-none, fold-more}
+use Rattle.counting.specs.Fold.{foldTo, onlyIf, joinTo, sumTo}
+use Rattle.counting.specs.FoldLaws.{fold-none, fold-more}
 use Rattle.counting.specs.Sums.{sum-const, sum-mono}
 use Rattle.counting.specs.Lists.{length-join-most, only-length}
 use Rattle.constraint.specs.declared.Constraint.{Constraint}
@@ -18,8 +19,8 @@ use Rattle.input_data.specs.Day.{constraintAt}
 use Rattle.scheduling.specs.Schedule.{entryAt}
 use Rattle.input_data.specs.declared.Sizes.{Sizes}
 use Rattle.edge_groups.specs.declared.Marks.{Marks}
-use Rattle.edge_groups.specs.Groups.{each, allThere, present, groupsOf, blockedOf, flat, Buffers, marks, marked, PutGroups, Room}
-use Rattle.edge_groups.specs.Names.{pairNames, slotNames, slotNamesAt, sameChoicesNames, constraintNames, constraintNamesAt, constraintsNames, memberNameAt, chooserNames, chooserNamesAt, groupNames, groupNamesAt, startOf, dependentNames, names}
+use Rattle.edge_groups.specs.Groups.{each, allThere, present, groupsOf, blockedOf, flat, GroupBuffers, marks, marksAfter, PutGroups, Room}
+use Rattle.edge_groups.specs.Names.{pairNames, slotNames, slotNamesAt, sameChoicesNames, constraintNames, constraintNamesAt, constraintsNames, memberNameAt, chooserNames, chooserNamesAt, groupNames, groupNamesAt, memberStart, dependentNames, names}
 use Rattle.edge_groups.specs.Stored.{each-append, entries-length, groups-length, blocked-length}
 
 -- ---- no more is stored than is named
@@ -59,8 +60,8 @@ pub stored-most : (n : ℕ) {ls : List (List ℕ)} {w g : ℕ} → Few ls w g �
 stored-most n {ls = ls} f = let le = less-stored n ls in (omega (arith, f .named), omega (arith, f .lists), omega (arith, f .named))
 
 -- where there was room for w and g, room for w′ and g′ is left after some of them
-pub room-after : {n : ℕ} {b₀ b : Buffers} {k₀ k : Marks} {ls : List (List ℕ)} {w g u v : ℕ} (w′ g′ : ℕ) → PutGroups n b₀ k₀ ls b k → Room b₀ k₀ w g → Few ls u v → u + w′ ≤ w → v + g′ ≤ g → Room b k w′ g′
-unfolding marked
+pub room-after : {n : ℕ} {b₀ b : GroupBuffers} {k₀ k : Marks} {ls : List (List ℕ)} {w g u v : ℕ} (w′ g′ : ℕ) → PutGroups n b₀ k₀ ls b k → Room b₀ k₀ w g → Few ls u v → u + w′ ≤ w → v + g′ ≤ g → Room b k w′ g′
+unfolding marksAfter
 room-after {n = n} {b₀ = b₀} {b = b} {k₀ = k₀} {k = k} {ls = ls} w′ g′ p r f h i =
     let le = less-stored n ls in
     let c1 : k .entries ≡ k₀ .entries + length (flat (groupsOf n ls)) = ap (λ (x : Marks). x .entries) (p .counts) in
@@ -68,11 +69,11 @@ room-after {n = n} {b₀ = b₀} {b = b} {k₀ = k₀} {k = k} {ls = ls} w′ g�
     let c3 : k .blocked ≡ k₀ .blocked + length (blockedOf n ls) = ap (λ (x : Marks). x .blocked) (p .counts) in
     omega (arith, entries-length p, groups-length p, blocked-length p)
 
-pub room-less : {b : Buffers} {k : Marks} {w g : ℕ} (u v : ℕ) → u ≤ w → v ≤ g → Room b k w g → Room b k u v
+pub room-less : {b : GroupBuffers} {k : Marks} {w g : ℕ} (u v : ℕ) → u ≤ w → v ≤ g → Room b k w g → Room b k u v
 room-less u v h i r = omega (arith, r .small, r .entries, r .ends, r .blocked)
 
 -- unused buffers of the named lengths have room for 4,096 edges in 2,048 lists
-pub room-start : (b : Buffers) (w g : ℕ) → 4096 ≤ length (b .entries) → 2048 ≤ length (b .ends) → 4096 ≤ length (b .blocked) → w ≤ 4096 → g ≤ 2048 → Room b (marks 0 0 0) w g
+pub room-start : (b : GroupBuffers) (w g : ℕ) → 4096 ≤ length (b .entries) → 2048 ≤ length (b .ends) → 4096 ≤ length (b .blocked) → w ≤ 4096 → g ≤ 2048 → Room b (marks 0 0 0) w g
 room-start b w g p q r h i = record { small = omega arith; entries = omega arith; ends = omega arith; blocked = omega arith }
 
 -- ---- joins of few
@@ -128,16 +129,16 @@ sum-64-times (suc m) f = omega (arith, sum-64-times m f)
 pub sum-within : (f : ℕ → ℕ) (s m : ℕ) → s < m → sumTo s f + f s ≤ sumTo m f
 sum-within f s m h = omega (arith, fold-more _+_ 0 s f, sum-mono (s + 1) m f (omega arith))
 
-pub start-none : (lengths : List ℕ) → 0 ≡ startOf lengths 0
-unfolding startOf
+pub start-none : (lengths : List ℕ) → 0 ≡ memberStart lengths 0
+unfolding memberStart
 start-none lengths = sym (fold-none _+_ 0 (entryAt lengths))
 
-pub start-more : (lengths : List ℕ) (g : ℕ) {start : ℕ} → start ≡ startOf lengths g → start + entryAt lengths g ≡ startOf lengths (g + 1)
-unfolding startOf
+pub start-more : (lengths : List ℕ) (g : ℕ) {start : ℕ} → start ≡ memberStart lengths g → start + entryAt lengths g ≡ memberStart lengths (g + 1)
+unfolding memberStart
 start-more lengths g e = rw (fold-more _+_ 0 g (entryAt lengths), e)
 
-pub start-within : (lengths : List ℕ) (g m : ℕ) → g < m → startOf lengths g + entryAt lengths g ≤ startOf lengths m
-unfolding startOf
+pub start-within : (lengths : List ℕ) (g m : ℕ) → g < m → memberStart lengths g + entryAt lengths g ≤ memberStart lengths m
+unfolding memberStart
 start-within lengths g m h = sum-within (entryAt lengths) g m h
 
 pub row-le : (i m n : ℕ) → i < m → i * n + n ≤ m * n
@@ -193,17 +194,17 @@ module _ (edge : ℕ → ℕ → ℕ) where
     unfolding groupNames
     group-few start len = few-if (not (eqb len 1)) (few-weaker (len * 64) 64 (rows-le (z .choosers) len h) h (choosers-few sch members start len (z .choosers)))
 
-    pub groups-few : (g : ℕ) → Few (joinTo g (groupNamesAt edge z sch lengths members)) (startOf lengths g * 64) (g * 64)
-    unfolding startOf
-    groups-few g = rw (← sum-64-times g (entryAt lengths), ← sum-const g 64) (few-join g (groupNamesAt edge z sch lengths members) (λ i. entryAt lengths i * 64) (λ i. 64) (λ i. group-few (startOf lengths i) (entryAt lengths i)))
+    pub groups-few : (g : ℕ) → Few (joinTo g (groupNamesAt edge z sch lengths members)) (memberStart lengths g * 64) (g * 64)
+    unfolding memberStart
+    groups-few g = rw (← sum-64-times g (entryAt lengths), ← sum-const g 64) (few-join g (groupNamesAt edge z sch lengths members) (λ i. entryAt lengths i * 64) (λ i. 64) (λ i. group-few (memberStart lengths i) (entryAt lengths i)))
 
-    pub dependent-few : (groups : ℕ) → groups ≤ 16 → startOf lengths groups ≤ 32 → Few (dependentNames edge z sch groups lengths members) 2048 1024
+    pub dependent-few : (groups : ℕ) → groups ≤ 16 → memberStart lengths groups ≤ 32 → Few (dependentNames edge z sch groups lengths members) 2048 1024
     unfolding dependentNames
     dependent-few groups p q = few-weaker 2048 1024 (omega arith) (omega arith) (groups-few groups)
 
 -- all that is named, whatever stands for an edge's number: the buffers have room for it
 pub names-few : (edge : ℕ → ℕ → ℕ) (z : Sizes) (sch : List ℕ) (count : ℕ → ℕ) (list : ℕ → ℕ → ℕ) (assignment : ConstraintList) (groups : ℕ) (lengths members : List ℕ)
-    → sumTo (z .slots) count ≤ 32 → assignment .count ≤ 32 → z .choosers ≤ 64 → groups ≤ 16 → startOf lengths groups ≤ 32
+    → sumTo (z .slots) count ≤ 32 → assignment .count ≤ 32 → z .choosers ≤ 64 → groups ≤ 16 → memberStart lengths groups ≤ 32
     → Few (names edge z sch count list assignment groups lengths members) 4096 2048
 unfolding names
 names-few edge z sch count list assignment groups lengths members a b c d e =

@@ -8,7 +8,8 @@ use native.Mathlib.Omega.{arith}
 use lib.Dec.{ltb}
 use lib.ListN.{length, take, drop}
 use borrow.Author.Tests.{eq-eqb, ne-eqb}
-use Rattle.counting.specs.Fold.{joinTo, sumTo, fold-at, fold-ext}
+use Rattle.counting.specs.Fold.{joinTo, sumTo}
+use Rattle.counting.specs.FoldLaws.{fold-at, fold-ext}
 use Rattle.constraint.specs.Kind.{kindNumber}
 use Rattle.constraint.specs.Cases.{targetOperand}
 use Rattle.constraint.specs.declared.Constraint.{Constraint}
@@ -16,12 +17,11 @@ use Rattle.input_data.specs.Day.{constraintAt}
 use Rattle.input_data.specs.declared.ConstraintList.{ConstraintList}
 use Rattle.scheduling.specs.Schedule.{entryAt}
 use Rattle.slot_lists.specs.Lists.{listed}
-use Rattle.slot_lists.specs.Lists.{part-length as front-length, part-at as front-at}
-use Rattle.schedule_state.specs.Blocks.{cell}
+use Rattle.slot_lists.specs.ListsLaws.{part-length as front-length, part-at as front-at}
 use Rattle.input_data.specs.declared.Sizes.{Sizes}
 use Rattle.edge_groups.specs.Groups.{each, allThere, ifThere, present}
 use Rattle.edge_groups.specs.Bounds.{start-within}
-use Rattle.edge_groups.specs.Names.{pairNames, slotNames, sameChoicesNames, constraintNames, memberName, chooserNamesAt, groupNames, groupNamesAt, startOf}
+use Rattle.edge_groups.specs.Names.{pairNames, slotNames, sameChoicesNames, constraintNames, memberName, chooserNamesAt, groupNames, groupNamesAt, memberStart}
 
 -- the two choosers that a ChoosersHaveSameChoices names
 abbrev pub NamesChoosers : Constraint → Type 0
@@ -39,8 +39,8 @@ pub record Grouping (n : ℕ) (z : Sizes) (lists lens : List ℕ) (assignment : 
   pub constraints : assignment .count ≤ 32
   pub names : (j : ℕ) → j < assignment .count → NamesChoosers (constraintAt assignment j)
   pub groups-most : groups ≤ 16
-  pub members-most : startOf lengths groups ≤ 32
-  pub member : (i : ℕ) → i < startOf lengths groups → entryAt members i < 32
+  pub members-most : memberStart lengths groups ≤ 32
+  pub member : (i : ℕ) → i < memberStart lengths groups → entryAt members i < 32
   pub entries-room : 4096 ≤ entries
   pub ends-room : 2048 ≤ ends
   pub blocked-room : 4096 ≤ blocked
@@ -73,8 +73,8 @@ pub record Members (start len : ℕ) (members : List ℕ) : Type 0 where
 pub record Dependent (z : Sizes) (groups : ℕ) (lengths members : List ℕ) : Type 0 where
   pub choosers : z .choosers ≤ 64
   pub count : groups ≤ 16
-  pub few : startOf lengths groups ≤ 32
-  pub each : (i : ℕ) → i < startOf lengths groups → entryAt members i < 32
+  pub few : memberStart lengths groups ≤ 32
+  pub each : (i : ℕ) → i < memberStart lengths groups → entryAt members i < 32
 
 -- ---- laws
 
@@ -144,10 +144,10 @@ module _ (edge : ℕ → ℕ → ℕ) (z : Sizes) (sch members : List ℕ) (star
   group-other e = rw (ne-eqb len 1 e)
 
 -- where a loop over the groups has come to
-pub group-at : (edge : ℕ → ℕ → ℕ) (z : Sizes) (sch lengths members : List ℕ) (g : ℕ) {start : ℕ} → start ≡ startOf lengths g → groupNames edge z sch members start (entryAt lengths g) ≡ groupNamesAt edge z sch lengths members g
+pub group-at : (edge : ℕ → ℕ → ℕ) (z : Sizes) (sch lengths members : List ℕ) (g : ℕ) {start : ℕ} → start ≡ memberStart lengths g → groupNames edge z sch members start (entryAt lengths g) ≡ groupNamesAt edge z sch lengths members g
 group-at edge z sch lengths members g e = rw e
 
-pub members-of : {z : Sizes} {groups : ℕ} {lengths members : List ℕ} (g : ℕ) {start : ℕ} → Dependent z groups lengths members → g < groups → start ≡ startOf lengths g → Members start (entryAt lengths g) members
+pub members-of : {z : Sizes} {groups : ℕ} {lengths members : List ℕ} (g : ℕ) {start : ℕ} → Dependent z groups lengths members → g < groups → start ≡ memberStart lengths g → Members start (entryAt lengths g) members
 members-of {groups = groups} {lengths = lengths} g h b e = record {
   few = omega (arith, start-within lengths g groups b, h .few);
   each = λ i k. h .each (_ + i) (omega (arith, start-within lengths g groups b));

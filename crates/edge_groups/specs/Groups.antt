@@ -1,5 +1,5 @@
 -- What lists of named edges become: groups and the blocked list. An edge is there if its number is below n. Definitions only.
-use Prim.Native.Nat.{ℕ, _+_, _*_, _≤_, _<_}
+use Prim.Native.Nat.{ℕ, _+_, _≤_}
 use mathlib.Core.Path.{_≡_}
 use mathlib.Core.Bool.{Bool, true, not, _&&_}
 use mathlib.Core.List.{List, [], _∷_, _++_}
@@ -32,14 +32,14 @@ present n l = each (ifThere n) l
 abbrev pub groupOf : ℕ → List ℕ → List (List ℕ)
 groupOf n l = onlyIf (allThere n l) (l ∷ [])
 
-abbrev pub blockedBy : ℕ → List ℕ → List ℕ
-blockedBy n l = onlyIf (not (allThere n l)) (present n l)
+abbrev pub blockedEdges : ℕ → List ℕ → List ℕ
+blockedEdges n l = onlyIf (not (allThere n l)) (present n l)
 
 abbrev pub groupsOf : ℕ → List (List ℕ) → List (List ℕ)
 groupsOf n ls = each (groupOf n) ls
 
 abbrev pub blockedOf : ℕ → List (List ℕ) → List ℕ
-blockedOf n ls = each (blockedBy n) ls
+blockedOf n ls = each (blockedEdges n) ls
 
 -- ---- the three lent buffers: the groups' entries, where each group ends among them, the blocked edges
 
@@ -52,39 +52,39 @@ unfoldable pub endsFrom : ℕ → List (List ℕ) → List ℕ
 endsFrom m [] = []
 endsFrom m (g ∷ gs) = (m + length g) ∷ endsFrom (m + length g) gs
 
-pub record Buffers : Type 0 where
+pub record GroupBuffers : Type 0 where
   pub entries : List ℕ
   pub ends : List ℕ
   pub blocked : List ℕ
 
-abbrev pub buffers : List ℕ → List ℕ → List ℕ → Buffers
-buffers a b c = record { entries = a; ends = b; blocked = c }
+abbrev pub groupBuffers : List ℕ → List ℕ → List ℕ → GroupBuffers
+groupBuffers a b c = record { entries = a; ends = b; blocked = c }
 
 abbrev pub marks : ℕ → ℕ → ℕ → Marks
 marks m g k = record { entries = m; groups = g; blocked = k }
 
 -- the buffers and how much of them is used, once lists of named edges are stored
-unfoldable pub stored : ℕ → Buffers → Marks → List (List ℕ) → Buffers
+unfoldable pub stored : ℕ → GroupBuffers → Marks → List (List ℕ) → GroupBuffers
 stored n b k ls = record {
   entries = written (b .entries) (k .entries) (flat (groupsOf n ls));
   ends = written (b .ends) (k .groups) (endsFrom (k .entries) (groupsOf n ls));
   blocked = written (b .blocked) (k .blocked) (blockedOf n ls);
 }
 
-unfoldable pub marked : ℕ → Marks → List (List ℕ) → Marks
-marked n k ls = record {
+unfoldable pub marksAfter : ℕ → Marks → List (List ℕ) → Marks
+marksAfter n k ls = record {
   entries = k .entries + length (flat (groupsOf n ls));
   groups = k .groups + length (groupsOf n ls);
   blocked = k .blocked + length (blockedOf n ls);
 }
 
 -- the lists ls of named edges were stored: b₀ at k₀ became b at k
-pub record PutGroups (n : ℕ) (b₀ : Buffers) (k₀ : Marks) (ls : List (List ℕ)) (b : Buffers) (k : Marks) : Type 0 where
-  pub counts : k ≡ marked n k₀ ls
+pub record PutGroups (n : ℕ) (b₀ : GroupBuffers) (k₀ : Marks) (ls : List (List ℕ)) (b : GroupBuffers) (k : Marks) : Type 0 where
+  pub counts : k ≡ marksAfter n k₀ ls
   pub holds : b ≡ stored n b₀ k₀ ls
 
 -- room for w named edges in g lists
-pub record Room (b : Buffers) (k : Marks) (w g : ℕ) : Type 0 where
+pub record Room (b : GroupBuffers) (k : Marks) (w g : ℕ) : Type 0 where
   pub small : k .entries + w ≤ 4096
   pub entries : k .entries + w ≤ length (b .entries)
   pub ends : k .groups + g ≤ length (b .ends)

@@ -1,20 +1,16 @@
 -- What a caller reads of stored groups and blocked edges: every edge is there, and each group stands between its start and its end. Assumes nothing.
 use Prim.Native.Nat.{ℕ, zero, suc, _+_, _-_, _<_, _≤_}
-use native.Mathlib.Numerals.{add-one}
 use native.Mathlib.Omega.{arith}
 use mathlib.Core.Path.{_≡_, refl, sym, ap, _∙_}
 use mathlib.Core.Bool.{true}
 use mathlib.Core.List.{List, [], _∷_, _++_, append-nil}
 use lib.Dec.{ltb}
-use lib.ListN.{length, getD, take, drop, length-append, List·getD-append}
-use lib.Seq.{split-at, take-suc, take-at, drop-at, getD-append-add}
+use lib.ListN.{length, getD, take, drop, length-append}
+use lib.Seq.{split-at, take-suc, take-at, drop-at}
 use borrow.Author.Tests.{ltb-true}
 use Rattle.counting.specs.Tests.{and-split, bool-cases}
-use Rattle.counting.specs.Written.{written-at}
-use Rattle.edge_groups.specs.declared.Marks.{Marks}
-use Rattle.edge_groups.specs.Groups.{each, self, allThere, present, groupsOf, blockedOf, flat, endsFrom, Buffers, marks, stored, marked, PutGroups, Room}
-use Rattle.edge_groups.specs.Stored.{each-append, there-append, ends-length}
-use Rattle.edge_groups.specs.Bounds.{Few, stored-most}
+use Rattle.edge_groups.specs.Groups.{each, self, allThere, present, groupsOf, blockedOf, flat, endsFrom}
+use Rattle.edge_groups.specs.Stored.{each-append, there-append}
 
 -- ---- every edge is there
 
@@ -59,10 +55,6 @@ abbrev pub groupStart : List (List ℕ) → ℕ → ℕ
 groupStart gs zero = 0
 groupStart gs (suc g) = groupEnd gs g
 
--- as a loop over the groups carries it
-pub start-next : (gs : List (List ℕ)) (g : ℕ) → groupStart gs (g + 1) ≡ groupEnd gs g
-start-next gs g = rw add-one
-
 end-from : (m : ℕ) (gs : List (List ℕ)) (g : ℕ) → g < length gs → getD (endsFrom m gs) g 0 ≡ m + length (flat (take (suc g) gs))
 unfolding endsFrom each
 end-from m [] g h = absurd (omega arith)
@@ -103,42 +95,3 @@ module _ (gs : List (List ℕ)) where
       ap (λ l. take (groupEnd gs g - groupStart gs g) (drop (groupStart gs g) l)) (around g h)
       ∙ ap (λ l. take (groupEnd gs g - groupStart gs g) l) (drop-at (flat (take g gs)) (getD gs g [] ++ flat (drop (suc g) gs)) (groupStart gs g) s)
       ∙ take-at (getD gs g []) (flat (drop (suc g) gs)) (groupEnd gs g - groupStart gs g) n
-
-  -- .. and entry by entry
-  pub group-entry : (g i : ℕ) → g < length gs → groupStart gs g + i < groupEnd gs g → getD (flat gs) (groupStart gs g + i) 0 ≡ getD (getD gs g []) i 0
-  group-entry g i h b =
-      ap (λ k. getD (flat gs) (k + i) 0) (start-is g h)
-      ∙ ap (λ l. getD l (length (flat (take g gs)) + i) 0) (around g h)
-      ∙ getD-append-add (flat (take g gs)) (getD gs g [] ++ flat (drop (suc g) gs)) i 0
-      ∙ List·getD-append (getD gs g []) (flat (drop (suc g) gs)) 0 i (omega (arith, end-is-after g h))
-
--- ---- buffers that nothing was stored in before
-
-module _ {n : ℕ} {b₀ b : Buffers} {k : Marks} {ls : List (List ℕ)} (p : PutGroups n b₀ (marks 0 0 0) ls b k) where
-  pub entries-count : k .entries ≡ length (flat (groupsOf n ls))
-  unfolding marked
-  entries-count = ap (λ (x : Marks). x .entries) (p .counts) ∙ omega arith
-
-  pub groups-count : k .groups ≡ length (groupsOf n ls)
-  unfolding marked
-  groups-count = ap (λ (x : Marks). x .groups) (p .counts) ∙ omega arith
-
-  pub blocked-count : k .blocked ≡ length (blockedOf n ls)
-  unfolding marked
-  blocked-count = ap (λ (x : Marks). x .blocked) (p .counts) ∙ omega arith
-
-  -- what was stored is read where it was stored
-  module _ {w g : ℕ} (f : Few ls w g) (r : Room b₀ (marks 0 0 0) w g) where
-    pub entry-read : (i : ℕ) → i < k .entries → getD (b .entries) i 0 ≡ getD (flat (groupsOf n ls)) i 0
-    unfolding stored
-    entry-read i h = ap (λ (x : Buffers). getD (x .entries) i 0) (p .holds) ∙ written-at (b₀ .entries) (flat (groupsOf n ls)) 0 i (omega (arith, stored-most n f .0, r .entries)) (omega (arith, entries-count))
-
-    pub end-read : (i : ℕ) → i < k .groups → getD (b .ends) i 0 ≡ groupEnd (groupsOf n ls) i
-    unfolding stored
-    end-read i h =
-        ap (λ (x : Buffers). getD (x .ends) i 0) (p .holds)
-        ∙ written-at (b₀ .ends) (endsFrom 0 (groupsOf n ls)) 0 i (omega (arith, stored-most n f .1, r .ends, ends-length 0 (groupsOf n ls))) (omega (arith, groups-count, ends-length 0 (groupsOf n ls)))
-
-    pub blocked-read : (i : ℕ) → i < k .blocked → getD (b .blocked) i 0 ≡ getD (blockedOf n ls) i 0
-    unfolding stored
-    blocked-read i h = ap (λ (x : Buffers). getD (x .blocked) i 0) (p .holds) ∙ written-at (b₀ .blocked) (blockedOf n ls) 0 i (omega (arith, stored-most n f .2, r .blocked)) (omega (arith, blocked-count))

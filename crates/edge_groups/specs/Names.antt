@@ -57,12 +57,12 @@ module _ {A : Type 0} where
   groupNames edge z sch members start len = onlyIf (not (eqb len 1)) (joinTo (z .choosers) (chooserNamesAt edge sch members start len))
 
 -- where group g begins among the members
-unfoldable pub startOf : List ℕ → ℕ → ℕ
-startOf lengths g = sumTo g (entryAt lengths)
+unfoldable pub memberStart : List ℕ → ℕ → ℕ
+memberStart lengths g = sumTo g (entryAt lengths)
 
 module _ {A : Type 0} where
   abbrev pub groupNamesAt : (ℕ → ℕ → A) → Sizes → List ℕ → List ℕ → List ℕ → ℕ → List (List A)
-  groupNamesAt edge z sch lengths members g = groupNames edge z sch members (startOf lengths g) (entryAt lengths g)
+  groupNamesAt edge z sch lengths members g = groupNames edge z sch members (memberStart lengths g) (entryAt lengths g)
 
   unfoldable pub dependentNames : (ℕ → ℕ → A) → Sizes → List ℕ → ℕ → List ℕ → List ℕ → List (List A)
   dependentNames edge z sch groups lengths members = joinTo groups (groupNamesAt edge z sch lengths members)

@@ -8,11 +8,13 @@ use mathlib.Core.List.{List, [], _∷_, _++_, append-assoc, append-nil}
 use lib.Dec.{ltb}
 use lib.ListN.{length, set, length-append}
 use borrow.Author.Tests.{lt-ltb, le-ltb}
-use Rattle.counting.specs.Fold.{onlyIf, joinTo, fold-none, fold-more, fold-at}
+use Rattle.counting.specs.Fold.{onlyIf, joinTo}
+use Rattle.counting.specs.FoldLaws.{fold-none, fold-more, fold-at}
 use Rattle.counting.specs.Lists.{only-length}
 use Rattle.counting.specs.Tests.{never}
-use Rattle.counting.specs.Written.{written, written-none, written-one, written-append, length-written, Storing, Put, one-buffer, put-length, put-none, put-eq, put-then}
-use Rattle.edge_groups.specs.Groups.{each, allThere, ifThere, present, flat, endsFrom, Buffers, buffers, marks, stored, marked, PutGroups}
+use Rattle.counting.specs.Written.{written}
+use Rattle.counting.specs.WrittenLaws.{written-one, written-append, length-written, Storing, Put, one-buffer, put-length, put-none, put-eq, put-then}
+use Rattle.edge_groups.specs.Groups.{each, allThere, ifThere, present, flat, endsFrom, GroupBuffers, groupBuffers, marks, stored, marksAfter, PutGroups}
 use Rattle.edge_groups.specs.declared.Marks.{Marks}
 
 -- ---- what is made of each element
@@ -35,43 +37,43 @@ ends-length m (x ∷ xs) = ap suc (ends-length (m + length x) xs)
 
 -- ---- lists of named edges, one after the other
 
-pub groups-then : {n : ℕ} {b₀ b b′ : Buffers} {k₀ k k′ : Marks} {ls ms : List (List ℕ)} → PutGroups n b₀ k₀ ls b k → PutGroups n b k ms b′ k′ → PutGroups n b₀ k₀ (ls ++ ms) b′ k′
-unfolding stored marked
+pub groups-then : {n : ℕ} {b₀ b b′ : GroupBuffers} {k₀ k k′ : Marks} {ls ms : List (List ℕ)} → PutGroups n b₀ k₀ ls b k → PutGroups n b k ms b′ k′ → PutGroups n b₀ k₀ (ls ++ ms) b′ k′
+unfolding stored marksAfter
 groups-then {n = n} {b₀ = b₀} {k₀ = k₀} {ls = ls} {ms = ms} p q = record {
   counts = q .counts ∙ rw (p .counts) (simp (each-append, length-append, add-assoc));
   holds = q .holds ∙ rw (p .counts, p .holds) (simp (each-append, ends-append, written-append, ends-length));
 }
 
-pub groups-none : (n : ℕ) (b : Buffers) (k : Marks) {ls : List (List ℕ)} → ls ≡ [] → PutGroups n b k ls b k
-unfolding stored marked each endsFrom written
+pub groups-none : (n : ℕ) (b : GroupBuffers) (k : Marks) {ls : List (List ℕ)} → ls ≡ [] → PutGroups n b k ls b k
+unfolding stored marksAfter each endsFrom written
 groups-none n b k e = rw e (record { counts = simp add-zero; holds = refl })
 
-pub groups-eq : {n : ℕ} {b₀ b : Buffers} {k₀ k : Marks} {ls ms : List (List ℕ)} → ls ≡ ms → PutGroups n b₀ k₀ ls b k → PutGroups n b₀ k₀ ms b k
+pub groups-eq : {n : ℕ} {b₀ b : GroupBuffers} {k₀ k : Marks} {ls ms : List (List ℕ)} → ls ≡ ms → PutGroups n b₀ k₀ ls b k → PutGroups n b₀ k₀ ms b k
 groups-eq {n = n} {b₀ = b₀} {b = b} {k₀ = k₀} {k = k} e p = subst (λ l. PutGroups n b₀ k₀ l b k) e p
 
 -- a loop stores f 0, f 1, ..: nothing yet, one more, all
-pub groups-start : (n : ℕ) (b : Buffers) (k : Marks) (f : ℕ → List (List ℕ)) → PutGroups n b k (joinTo 0 f) b k
+pub groups-start : (n : ℕ) (b : GroupBuffers) (k : Marks) (f : ℕ → List (List ℕ)) → PutGroups n b k (joinTo 0 f) b k
 groups-start n b k f = groups-none n b k (fold-none _++_ [] f)
 
-pub groups-step : {n : ℕ} {b₀ b b′ : Buffers} {k₀ k k′ : Marks} {i : ℕ} (f : ℕ → List (List ℕ)) → PutGroups n b₀ k₀ (joinTo i f) b k → PutGroups n b k (f i) b′ k′ → PutGroups n b₀ k₀ (joinTo (i + 1) f) b′ k′
+pub groups-step : {n : ℕ} {b₀ b b′ : GroupBuffers} {k₀ k k′ : Marks} {i : ℕ} (f : ℕ → List (List ℕ)) → PutGroups n b₀ k₀ (joinTo i f) b k → PutGroups n b k (f i) b′ k′ → PutGroups n b₀ k₀ (joinTo (i + 1) f) b′ k′
 groups-step {i = i} f p q = groups-eq (sym (fold-more _++_ [] i f)) (groups-then p q)
 
-pub groups-all : {n : ℕ} {b₀ b : Buffers} {k₀ k : Marks} {i m : ℕ} (f : ℕ → List (List ℕ)) → i ≡ m → PutGroups n b₀ k₀ (joinTo i f) b k → PutGroups n b₀ k₀ (joinTo m f) b k
+pub groups-all : {n : ℕ} {b₀ b : GroupBuffers} {k₀ k : Marks} {i m : ℕ} (f : ℕ → List (List ℕ)) → i ≡ m → PutGroups n b₀ k₀ (joinTo i f) b k → PutGroups n b₀ k₀ (joinTo m f) b k
 groups-all f e p = groups-eq (fold-at _++_ [] f e) p
 
 -- a store keeps each buffer's length
-module _ {n : ℕ} {b₀ b : Buffers} {k₀ k : Marks} {ls : List (List ℕ)} (p : PutGroups n b₀ k₀ ls b k) where
+module _ {n : ℕ} {b₀ b : GroupBuffers} {k₀ k : Marks} {ls : List (List ℕ)} (p : PutGroups n b₀ k₀ ls b k) where
   pub entries-length : length (b .entries) ≡ length (b₀ .entries)
   unfolding stored
-  entries-length = ap (λ (x : Buffers). length (x .entries)) (p .holds) ∙ length-written (b₀ .entries) (k₀ .entries) _
+  entries-length = ap (λ (x : GroupBuffers). length (x .entries)) (p .holds) ∙ length-written (b₀ .entries) (k₀ .entries) _
 
   pub groups-length : length (b .ends) ≡ length (b₀ .ends)
   unfolding stored
-  groups-length = ap (λ (x : Buffers). length (x .ends)) (p .holds) ∙ length-written (b₀ .ends) (k₀ .groups) _
+  groups-length = ap (λ (x : GroupBuffers). length (x .ends)) (p .holds) ∙ length-written (b₀ .ends) (k₀ .groups) _
 
   pub blocked-length : length (b .blocked) ≡ length (b₀ .blocked)
   unfolding stored
-  blocked-length = ap (λ (x : Buffers). length (x .blocked)) (p .holds) ∙ length-written (b₀ .blocked) (k₀ .blocked) _
+  blocked-length = ap (λ (x : GroupBuffers). length (x .blocked)) (p .holds) ∙ length-written (b₀ .blocked) (k₀ .blocked) _
 
 -- ---- one list, edge by edge
 
@@ -144,24 +146,24 @@ module _ (n : ℕ) (f : ℕ → List ℕ) where
   present-done e p = put-eq (ap (λ k. present n (joinTo k f)) e) p
 
 -- a list whose edges are all there, and one where one is missing
-put-group-of : (n : ℕ) (b : Buffers) (k : Marks) (l : List ℕ) → allThere n l ≡ true
-    → PutGroups n b k (l ∷ []) (buffers (written (b .entries) (k .entries) l) (set (b .ends) (k .groups) (k .entries + length l)) (b .blocked)) (marks (k .entries + length l) (k .groups + 1) (k .blocked))
-unfolding stored marked written each endsFrom
+put-group-of : (n : ℕ) (b : GroupBuffers) (k : Marks) (l : List ℕ) → allThere n l ≡ true
+    → PutGroups n b k (l ∷ []) (groupBuffers (written (b .entries) (k .entries) l) (set (b .ends) (k .groups) (k .entries + length l)) (b .blocked)) (marks (k .entries + length l) (k .groups + 1) (k .blocked))
+unfolding stored marksAfter written each endsFrom
 put-group-of n b k l e = record { counts = rw e (simp (append-nil, add-zero)); holds = rw e (simp append-nil) }
 
-put-blocked-of : (n : ℕ) (b : Buffers) (k : Marks) (l : List ℕ) → allThere n l ≡ false
-    → PutGroups n b k (l ∷ []) (buffers (b .entries) (b .ends) (written (b .blocked) (k .blocked) (present n l))) (marks (k .entries) (k .groups) (k .blocked + length (present n l)))
-unfolding stored marked written each endsFrom
+put-blocked-of : (n : ℕ) (b : GroupBuffers) (k : Marks) (l : List ℕ) → allThere n l ≡ false
+    → PutGroups n b k (l ∷ []) (groupBuffers (b .entries) (b .ends) (written (b .blocked) (k .blocked) (present n l))) (marks (k .entries) (k .groups) (k .blocked + length (present n l)))
+unfolding stored marksAfter written each endsFrom
 put-blocked-of n b k l e = record { counts = rw e (simp (append-nil, add-zero)); holds = rw e (simp append-nil) }
 
 -- those that are there were stored, as a group or as blocked
-module _ {n : ℕ} {b : Buffers} {k : Marks} {l d : List ℕ} {e : ℕ} where
-  pub stored-group : allThere n l ≡ true → Put storing (b .entries) (k .entries) (present n l) d e → PutGroups n b k (l ∷ []) (buffers d (set (b .ends) (k .groups) e) (b .blocked)) (marks e (k .groups + 1) (k .blocked))
+module _ {n : ℕ} {b : GroupBuffers} {k : Marks} {l d : List ℕ} {e : ℕ} where
+  pub stored-group : allThere n l ≡ true → Put storing (b .entries) (k .entries) (present n l) d e → PutGroups n b k (l ∷ []) (groupBuffers d (set (b .ends) (k .groups) e) (b .blocked)) (marks e (k .groups + 1) (k .blocked))
   stored-group t a =
       let p : present n l ≡ l = present-all n l t in
       let c : e ≡ k .entries + length l = a .count ∙ rw p in
       let h : d ≡ written (b .entries) (k .entries) l = a .holds ∙ rw p in
       rw (c, h) (put-group-of n b k l t)
 
-  pub stored-blocked : allThere n l ≡ false → Put storing (b .blocked) (k .blocked) (present n l) d e → PutGroups n b k (l ∷ []) (buffers (b .entries) (b .ends) d) (marks (k .entries) (k .groups) e)
+  pub stored-blocked : allThere n l ≡ false → Put storing (b .blocked) (k .blocked) (present n l) d e → PutGroups n b k (l ∷ []) (groupBuffers (b .entries) (b .ends) d) (marks (k .entries) (k .groups) e)
   stored-blocked t a = rw (a .count, a .holds) (put-blocked-of n b k l t)

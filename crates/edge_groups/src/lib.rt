@@ -1,19 +1,15 @@
-// create_edge_groups of assignment_solver.rs and create_edge_group_or_block_edges of mip_flow.rs.
-mod dependent;
-mod edges;
-mod pairs;
-
-use dependent::put_dependent;
-use input_data::ConstraintList;
-use input_data::Sizes;
-use pairs::put_constraints;
+// create_edge_group_or_block_edges of mip_flow.rs: edges that are named together form a group if all are
+// there; otherwise those that are there are blocked. An edge is there if its number is below n.
+ghost use mathlib.Core.Path.{_≡_};
+ghost use mathlib.Core.List.{[], _∷_};
+ghost use Prim.Native.Nat.{_+_, _<_, _≤_};
 ghost use lib.ListN.{length};
-ghost use Rattle.scheduling.specs.Schedule.{entryAt};
-ghost use Rattle.slot_lists.specs.Lists.{listed};
-ghost use Rattle.edge_groups.specs.Groups.{buffers, marks, PutGroups};
-ghost use Rattle.edge_groups.specs.Names.{names};
-ghost use Rattle.mip_flow.specs.Index.{numberAt};
-ghost use Rattle.edge_groups.specs.Grouping.{Grouping};
+ghost use Rattle.counting.specs.Lent.{old, new};
+ghost use Rattle.counting.specs.WrittenLaws.{Put};
+ghost use Rattle.mip_flow.specs.IndexLaws.{numberAt};
+ghost use Rattle.edge_groups.specs.Groups.{ifThere, present};
+ghost use Rattle.edge_groups.specs.Lent.{Stores, HasRoom};
+ghost use Rattle.edge_groups.specs.Stored.{storing};
 
 // How much of each buffer is used.
 pub struct Marks {
@@ -22,54 +18,89 @@ pub struct Marks {
     pub blocked: usize,
 }
 
-// Stores the groups and the blocked edges of a state: those that constraints name, then those of
-// dependent groups. The table gives each edge's number, which is below n if the edge is there.
-pub fn put_groups<'a>(
+fn widened(number: u16) -> usize
+    ensures { λ r. ⌜ r ≡ number ⌝ }
+{
+    number as usize
+}
+
+// The number of the edge of chooser c to choice k.
+pub fn edge_number(index: &[u16; 2048], c: usize, k: usize) -> usize
+    requires { ⌜ (c < 64) × (k < 32) ⌝ }
+    ensures { λ r. ⌜ r ≡ numberAt (old index) c k ⌝ }
+{
+    widened(index[32 * c + k])
+}
+
+// Stores an edge if it is there.
+pub fn put_edge(n: usize, e: usize, out: &mut [u16], at: usize) -> usize
+    requires { ⌜ (n ≤ 2080) × (at + 1 ≤ length (now out)) ⌝ }
+    ensures { λ r. ⌜ Put storing (old out) at (ifThere n e) (new out) r ⌝ }
+{
+    if e < n {
+        out[at] = e as u16;
+        return at + 1;
+    }
+    at
+}
+
+// Stores those of two edges that are there.
+fn put_two(n: usize, x: usize, y: usize, out: &mut [u16], at: usize) -> usize
+    requires { ⌜ (n ≤ 2080) × (at + 2 ≤ length (now out)) ⌝ }
+    ensures { λ r. ⌜ Put storing (old out) at (present n (x ∷ y ∷ [])) (new out) r ⌝ }
+{
+    let next = put_edge(n, x, out, at);
+    put_edge(n, y, out, next)
+}
+
+// Two edges are stored as a group if both are there; otherwise the one that is there is blocked.
+fn put_pair(
     n: usize,
-    sizes: Sizes,
-    index: &[u16; 2048],
-    lists: &[u8],
-    lens: &[u32; 8],
-    entries: &[u8; 32],
-    assignment: ConstraintList,
-    groups: usize,
-    lengths: &'a [u32; 16],
-    members: &'a [u32; 32],
-    group_entries: &mut [u16],
+    x: usize,
+    y: usize,
+    entries: &mut [u16],
     ends: &mut [u16],
     blocked: &mut [u16],
+    at: Marks,
 ) -> Marks
-    requires { ⌜ Grouping n sizes (now lists) (now lens) assignment groups (now lengths) (now members) (length (now «group_entries»)) (length (now ends)) (length (now blocked)) ⌝ }
-    ensures { λ r. ⌜ PutGroups n (buffers (now («group_entries» .entry)) (now (ends .entry)) (now (blocked .entry))) (marks 0 0 0) (names (numberAt (now (index .entry))) sizes (now (entries .entry)) (entryAt (now (lens .entry))) (listed (sizes .stride) (now (lists .entry))) assignment groups (now (lengths .entry)) (now (members .entry))) (buffers (now («group_entries» .exit)) (now (ends .exit)) (now (blocked .exit))) r ⌝ }
+    requires { ⌜ (n ≤ 2080) × HasRoom entries ends blocked at 2 1 ⌝ }
+    ensures { λ r. ⌜ Stores n entries ends blocked at ((x ∷ y ∷ []) ∷ []) r ⌝ }
 {
-    let none = Marks {
-        entries: 0,
-        groups: 0,
-        blocked: 0,
-    };
-    let at = put_constraints(
-        n,
-        sizes,
-        index,
-        lists,
-        lens,
-        assignment,
-        group_entries,
-        ends,
-        blocked,
-        none,
-    );
-    put_dependent(
-        n,
-        sizes,
-        index,
-        entries,
-        groups,
-        lengths,
-        members,
-        group_entries,
-        ends,
-        blocked,
-        at,
-    )
+    let m = at.entries;
+    let g = at.groups;
+    let b = at.blocked;
+    if (x < n) & (y < n) {
+        let end = put_two(n, x, y, entries, m);
+        ends[g] = end as u16;
+        return Marks {
+            entries: end,
+            groups: g + 1,
+            blocked: b,
+        };
+    }
+    Marks {
+        entries: m,
+        groups: g,
+        blocked: put_two(n, x, y, blocked, b),
+    }
+}
+
+// The edges of choosers a and b to choice k.
+pub fn put_choice(
+    n: usize,
+    index: &[u16; 2048],
+    a: usize,
+    b: usize,
+    k: usize,
+    entries: &mut [u16],
+    ends: &mut [u16],
+    blocked: &mut [u16],
+    at: Marks,
+) -> Marks
+    requires { ⌜ (n ≤ 2080) × (a < 64) × (b < 64) × (k < 32) × HasRoom entries ends blocked at 2 1 ⌝ }
+    ensures { λ r. ⌜ Stores n entries ends blocked at ((numberAt (old index) a k ∷ numberAt (old index) b k ∷ []) ∷ []) r ⌝ }
+{
+    let x = edge_number(index, a, k);
+    let y = edge_number(index, b, k);
+    put_pair(n, x, y, entries, ends, blocked, at)
 }

@@ -12,7 +12,8 @@ use lib.Dec.{T}
 use lib.Seq.{getD-set-same, getD-set-other}
 use lib.Signed.{mag, nonNeg}
 use borrow.Author.Tests.{eq-eqb, ne-eqb}
-use Rattle.counting.specs.Fold.{anyTo, fold-none, fold-more, fold-ext}
+use Rattle.counting.specs.Fold.{anyTo}
+use Rattle.counting.specs.FoldLaws.{fold-none, fold-more, fold-ext}
 use Rattle.counting.specs.Ints.{eqZ}
 use Rattle.counting.specs.Tests.{eq-cases, never}
 use Rattle.edge_values.specs.Values.{valueAt, flowAt, flow, unbalancedAt, someUnbalanced}

@@ -10,10 +10,11 @@ use lib.IntN.{ℤ, pos, negsuc}
 use lib.ListN.{length, getD, take, drop}
 use lib.Signed.{mag, nonNeg, ltZ}
 use borrow.Author.Tests.{ltb-false, ne-eqb, not-false}
-use Rattle.counting.specs.Fold.{anyTo, fold-none}
+use Rattle.counting.specs.Fold.{anyTo}
+use Rattle.counting.specs.FoldLaws.{fold-none}
 use Rattle.counting.specs.Signed.{eqZ-same, same-eqZ}
 use Rattle.counting.specs.Tests.{bool-cases, never, or-split, none-each, each-none}
-use Rattle.slot_lists.specs.Lists.{part-length, part-at}
+use Rattle.slot_lists.specs.ListsLaws.{part-length, part-at}
 use Rattle.edge_values.specs.Values.{valueAt, outsideAt, someOutside, differ, differsAt, isUneven}
 
 -- 14 asks: the tables hold the edges, and no max is above 1,000

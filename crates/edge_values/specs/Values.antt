@@ -16,11 +16,11 @@ abbrev pub valueAt : List ℤ → ℕ → ℤ
 valueAt vs e = getD vs e (pos 0)
 
 -- 14. An edge value lies outside 0 to the edge's max.
-abbrev pub outside : ℤ → ℕ → Bool
-outside v max = ltZ v (pos 0) || ltZ (pos max) v
+abbrev pub outOfBounds : ℤ → ℕ → Bool
+outOfBounds v max = ltZ v (pos 0) || ltZ (pos max) v
 
 abbrev pub outsideAt : List ℕ → List ℤ → ℕ → Bool
-outsideAt maxs vs e = outside (valueAt vs e) (getD maxs e 0)
+outsideAt maxs vs e = outOfBounds (valueAt vs e) (getD maxs e 0)
 
 unfoldable pub someOutside : ℕ → List ℕ → List ℤ → Bool
 someOutside edges maxs vs = anyTo edges (outsideAt maxs vs)

@@ -8,6 +8,7 @@ ghost use lib.ListN.{length, getD, set};
 ghost use lib.Signed.{mag, nonNeg};
 ghost use Rattle.counting.specs.Fold.{anyTo};
 ghost use Rattle.counting.specs.Ints.{eqZ};
+ghost use Rattle.counting.specs.Lent.{old, new};
 ghost use Rattle.edge_values.specs.Values.{someUnbalanced};
 ghost use Rattle.edge_values.specs.Balance.{Balancing, Walking, Weighing, Flows, unbalancedBy};
 
@@ -21,7 +22,7 @@ fn amount(value: i32) -> u32
 
 fn add(sums: &mut [u32; 552], node: usize, amount: u32)
     requires { ⌜ (node < 552) × (getD (now sums) node 0 + amount < 4294967296) ⌝ }
-    ensures { λ _. ⌜ now (sums .exit) ≡ set (now (sums .entry)) node (getD (now (sums .entry)) node 0 + amount) ⌝ }
+    ensures { λ _. ⌜ new sums ≡ set (old sums) node (getD (old sums) node 0 + amount) ⌝ }
 {
     sums[node] = sums[node] + amount;
 }
@@ -36,7 +37,7 @@ fn add_flows(
     ins: &mut [u32; 552],
 )
     requires { ⌜ Walking edges (now from) (now to) (now values) (now outs) (now ins) ⌝ }
-    ensures { λ _. ⌜ Flows edges (now (from .entry)) (now (values .entry)) (now (outs .exit)) × Flows edges (now (to .entry)) (now (values .entry)) (now (ins .exit)) ⌝ }
+    ensures { λ _. ⌜ Flows edges (old from) (old values) (new outs) × Flows edges (old to) (old values) (new ins) ⌝ }
 {
     let mut e = 0;
     while e < edges {
@@ -61,7 +62,7 @@ fn sums_unbalanced<'a>(
     supplies: &[i32],
 ) -> bool
     requires { ⌜ Weighing nodes (now outs) (now ins) (length (now supplies)) ⌝ }
-    ensures { λ r. ⌜ r ≡ anyTo nodes (unbalancedBy (now (outs .entry)) (now (ins .entry)) (now (supplies .entry))) ⌝ }
+    ensures { λ r. ⌜ r ≡ anyTo nodes (unbalancedBy (old outs) (old ins) (old supplies)) ⌝ }
 {
     let mut bad = false;
     let mut v = 0;
@@ -82,7 +83,7 @@ pub fn some_unbalanced(
     values: &[i32],
 ) -> bool
     requires { ⌜ Balancing nodes edges (now from) (now to) (now supplies) (now values) ⌝ }
-    ensures { λ r. ⌜ r ≡ someUnbalanced nodes edges (now (from .entry)) (now (to .entry)) (now (supplies .entry)) (now (values .entry)) ⌝ }
+    ensures { λ r. ⌜ r ≡ someUnbalanced nodes edges (old from) (old to) (old supplies) (old values) ⌝ }
 {
     let mut outs = [0u32; 552];
     let mut ins = [0u32; 552];

@@ -5,12 +5,13 @@ ghost use mathlib.Core.Bool.{not};
 ghost use lib.ListN.{length};
 ghost use Rattle.counting.specs.Fold.{anyTo};
 ghost use Rattle.counting.specs.Ints.{eqZ};
-ghost use Rattle.edge_values.specs.Values.{outside, someOutside, someUsed, isUneven};
+ghost use Rattle.counting.specs.Lent.{old};
+ghost use Rattle.edge_values.specs.Values.{outOfBounds, someOutside, someUsed, isUneven};
 ghost use Rattle.edge_values.specs.Checks.{Bounded, Naming, unevenPart, Grouped};
 
 fn is_outside(value: i32, max: u32) -> bool
     requires { ⌜ max ≤ 1000 ⌝ }
-    ensures { λ r. ⌜ r ≡ outside value max ⌝ }
+    ensures { λ r. ⌜ r ≡ outOfBounds value max ⌝ }
 {
     (value < 0) | ((max as i32) < value)
 }
@@ -18,7 +19,7 @@ fn is_outside(value: i32, max: u32) -> bool
 // 14. An edge value lies outside 0 to the edge's max.
 pub fn some_outside(edges: usize, maxs: &[u32], values: &[i32]) -> bool
     requires { ⌜ Bounded edges (now maxs) (length (now values)) ⌝ }
-    ensures { λ r. ⌜ r ≡ someOutside edges (now (maxs .entry)) (now (values .entry)) ⌝ }
+    ensures { λ r. ⌜ r ≡ someOutside edges (old maxs) (old values) ⌝ }
 {
     let mut bad = false;
     let mut e = 0;
@@ -38,7 +39,7 @@ fn differs(a: i32, b: i32) -> bool
 // 15. A blocked edge has a value other than 0.
 pub fn some_used(n: usize, blocked: &[u16], values: &[i32]) -> bool
     requires { ⌜ Naming n (now blocked) (length (now values)) ⌝ }
-    ensures { λ r. ⌜ r ≡ someUsed n (now (blocked .entry)) (now (values .entry)) ⌝ }
+    ensures { λ r. ⌜ r ≡ someUsed n (old blocked) (old values) ⌝ }
 {
     let mut bad = false;
     let mut i = 0;
@@ -53,7 +54,7 @@ pub fn some_used(n: usize, blocked: &[u16], values: &[i32]) -> bool
 // Two edges of a group differ: one differs from the first.
 fn is_uneven(group: &[u16], values: &[i32]) -> bool
     requires { ⌜ Naming (length (now group)) (now group) (length (now values)) ⌝ }
-    ensures { λ r. ⌜ r ≡ isUneven (now (values .entry)) (now (group .entry)) ⌝ }
+    ensures { λ r. ⌜ r ≡ isUneven (old values) (old group) ⌝ }
 {
     if group.len() == 0 {
         return false;
@@ -73,7 +74,7 @@ fn is_uneven(group: &[u16], values: &[i32]) -> bool
 // 16. Two edges of one group differ. Each group begins where the one before it ends.
 pub fn some_uneven(groups: usize, entries: &[u16], ends: &[u16], values: &[i32]) -> bool
     requires { ⌜ Grouped groups (now entries) (now ends) (length (now values)) ⌝ }
-    ensures { λ r. ⌜ r ≡ anyTo groups (unevenPart (now (values .entry)) (now (entries .entry)) (now (ends .entry))) ⌝ }
+    ensures { λ r. ⌜ r ≡ anyTo groups (unevenPart (old values) (old entries) (old ends)) ⌝ }
 {
     let mut bad = false;
     let mut start: usize = 0;

@@ -1,10 +1,6 @@
-// Checks 14 to 17 of edge values that are proposed from outside, and the plan that they decode to.
+// Checks 14 to 17 of edge values that are proposed from outside.
 mod balance;
 mod checks;
-mod decoding;
+mod number;
 
-pub use balance::some_unbalanced;
-pub use checks::some_outside;
-pub use checks::some_uneven;
-pub use checks::some_used;
-pub use decoding::decode;
+pub use number::values_number;

@@ -18,7 +18,7 @@ use Rattle.input_data.specs.declared.InputData.{InputData}
 use Rattle.plans.specs.Pairs.{sum-ext}
 use Rattle.plans.specs.Seatable.{choiceIn, sits, seatsIn}
 use Rattle.scheduling.specs.Schedule.{entryAt}
-use Rattle.scoring.specs.Feasible.{allPlaced, seatsAll, allSeated, scheduleFeasible, planFeasible}
+use Rattle.feasibility.specs.Feasible.{allPlaced, seatsAll, allSeated, scheduleFeasible, planFeasible}
 use Rattle.slot_lists.specs.Sums.{inSlot, weighed}
 use Rattle.feasible_plans.specs.Premises.{Premises}
 use Rattle.feasible_plans.specs.Seats.{Stands, allowed, none-twice, all-filled}

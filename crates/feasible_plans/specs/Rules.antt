@@ -8,7 +8,7 @@ use native.Mathlib.Omega.{arith}
 use lib.Dec.{eqb}
 use borrow.Author.Tests.{eqb-true, eq-eqb, ne-eqb, ltb-true}
 use Rattle.assignment.specs.Plan.{isScheduled, isSeat, isInChoice}
-use Rattle.constraint.specs.Cases.{targetOperand}
+use Rattle.constraint.specs.Cases.{targetCase, targetOperand}
 use Rattle.constraint.specs.Kind.{kindNumber, kindOf}
 use Rattle.constraint.specs.declared.Constraint.{Constraint}
 use Rattle.constraint.specs.declared.ConstraintType.{ConstraintType}
@@ -17,13 +17,14 @@ use Rattle.counting.specs.Fold.{gate}
 use Rattle.counting.specs.Tests.{eq-cases, bool-cases, never, or-split, each-all, one-passes, some-passes, Passes, below-each}
 use Rattle.input_data.specs.Accepted.{AcceptedList}
 use Rattle.input_data.specs.Day.{numbersAt, constraintAt}
-use Rattle.input_data.specs.Fits.{left-is, right-is}
+use Rattle.input_data.specs.Fits.{left-is, right-is, right-is-case}
 use Rattle.input_data.specs.Operands.{leftCase, rightCase, isOneOf}
 use Rattle.input_data.specs.declared.InputData.{InputData}
 use Rattle.plans.specs.Seatable.{choiceIn, sits, memberOf}
-use Rattle.satisfies_constraints.specs.Constraints.{timesIn, asOften, sameChoosers, likewise, sameChoices, meetsPlan, assignmentAt, assignmentMet}
+use Rattle.satisfies_constraints.specs.Constraints.{timesIn, asOften, sameChoosers, likewise, sameChoices, assignmentKindMet, assignmentAt, assignmentMet}
+use Rattle.satisfies_constraints.specs.ByNumber.{of-choice, of-chooser}
 use Rattle.scheduling.specs.Schedule.{entryAt}
-use Rattle.schedule_state.specs.Blocks.{besideIn, blocksBy, blocksAt, blockedBy}
+use Rattle.blocks.specs.Blocks.{besideIn, blocksBy, blocksAt, blockedBy}
 use Rattle.feasible_plans.specs.Premises.{ShareGroup, Tied}
 use Rattle.feasible_plans.specs.Seats.{Stands, seat-same, allowed, times-scheduled, times-unscheduled}
 
@@ -117,24 +118,28 @@ module _ {d : InputData} {sch : List ℕ} {limit : ℕ} {preferences plan bytes 
     operands : (k : ConstraintType) → con .kind ≡ k → (isOneOf (d .choosers) (d .choices) (d .slots) (leftCase k) left ≡ true) × (isOneOf (d .choosers) (d .choices) (d .slots) (rightCase k) right ≡ true)
     operands k e = (rw e at (left-is (d .choosers) (d .choices) (d .slots) con (ok .operands j hj)), rw e at (right-is (d .choosers) (d .choices) (d .slots) con (ok .operands j hj)))
 
+    -- .. and of the target's case
+    case : (k : ConstraintType) → con .kind ≡ k → targetCase (con .right) ≡ rightCase k
+    case k e = right-is-case (d .choosers) (d .choices) (d .slots) con (ok .operands j hj) ∙ ap rightCase e
+
     -- its kind is that of its number
     of-number : (k : ConstraintType) → kindOf (numbersAt (d .assignment) j .kind) ≡ k → con .kind ≡ k
     of-number k e = e
 
     abbrev Met : Type 0
-    Met = meetsPlan (d .choosers) (d .choices) (d .slots) sch bytes (kindNumber (con .kind)) left right ≡ true
+    Met = assignmentAt (d .choosers) (d .choices) (d .slots) sch bytes (d .assignment) j ≡ true
 
     met : Met
-    unfolding meetsPlan kindOf
+    unfolding assignmentKindMet kindOf
     met = kind-cases (numbersAt (d .assignment) j .kind) (ok .kind-least j hj) (ok .kind-most j hj)
         (λ e. let k : con .kind ≡ ChoicesHaveSameChoosers = rw e in let o = operands ChoicesHaveSameChoosers k in
-        rw k (tie-met left right (ltb-true _ _ (o .0)) (ltb-true _ _ (o .1)) (tied .shares j hj (ap kindNumber k))))
+        rw k (of-choice (con .right) _ (case ChoicesHaveSameChoosers k) ∙ tie-met left right (ltb-true _ _ (o .0)) (ltb-true _ _ (o .1)) (tied .shares j hj (ap kindNumber k))))
         (λ e. let k : con .kind ≡ ChooserIsInChoice = rw e in let o = operands ChooserIsInChoice k in
-        rw k (is-in-met j left right hj (ok .count) (ap kindNumber k) refl refl (ltb-true _ _ (o .0)) (ltb-true _ _ (o .1))))
+        rw k (of-choice (con .right) _ (case ChooserIsInChoice k) ∙ is-in-met j left right hj (ok .count) (ap kindNumber k) refl refl (ltb-true _ _ (o .0)) (ltb-true _ _ (o .1))))
         (λ e. let k : con .kind ≡ ChooserIsNotInChoice = rw e in let o = operands ChooserIsNotInChoice k in
-        rw k (is-not-in-met j left right hj (ok .count) (ap kindNumber k) refl refl (ltb-true _ _ (o .0))))
+        rw k (of-choice (con .right) _ (case ChooserIsNotInChoice k) ∙ is-not-in-met j left right hj (ok .count) (ap kindNumber k) refl refl (ltb-true _ _ (o .0))))
         (λ e. let k : con .kind ≡ ChoosersHaveSameChoices = rw e in let o = operands ChoosersHaveSameChoices k in
-        rw k (same-choices left right (ltb-true _ _ (o .0)) (ltb-true _ _ (o .1)) (λ x hx ex. st .seatable .same j hj (ap kindNumber k) x hx ex)))
+        rw k (of-chooser (con .right) _ (case ChoosersHaveSameChoices k) ∙ same-choices left right (ltb-true _ _ (o .0)) (ltb-true _ _ (o .1)) (λ x hx ex. st .seatable .same j hj (ap kindNumber k) x hx ex)))
 
   pub assignment-met : AcceptedList (d .choosers) (d .choices) (d .slots) 65536 65539 (d .assignment) → Tied d sch → assignmentMet d sch bytes ≡ true
   unfolding assignmentMet

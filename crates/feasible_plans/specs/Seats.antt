@@ -10,7 +10,8 @@ use lib.Dec.{eqb}
 use borrow.Author.Tests.{ne-eqb, le-leb}
 use Rattle.assignment.specs.Calls.{seats}
 use Rattle.assignment.specs.Plan.{choiceOf, isSeat}
-use Rattle.counting.specs.Fold.{gate, sumTo, fold-none, fold-suc}
+use Rattle.counting.specs.Fold.{gate, sumTo}
+use Rattle.counting.specs.FoldLaws.{fold-none, fold-suc}
 use Rattle.counting.specs.Sums.{sum-zeros, sum-only, grid-lt}
 use Rattle.counting.specs.Tests.{eq-cases, each-all}
 use Rattle.input_data.specs.Day.{minAt, maxAt}

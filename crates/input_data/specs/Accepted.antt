@@ -6,7 +6,8 @@ use native.Mathlib.Omega.{arith}
 use lib.Dec.{ltb}
 use lib.ListN.{getD}
 use borrow.Author.Tests.{ltb-false, leb-false, le-ltb, lt-leb}
-use Rattle.counting.specs.Tests.{or-split, someBelow, below-each, each-below}
+use Rattle.counting.specs.Tests.{or-split, below-each, each-below}
+use Rattle.counting.specs.Fold.{someBelow}
 use Rattle.input_data.specs.Day.{minAt, maxAt, numbersAt, constraintAt}
 use Rattle.input_data.specs.Operands.{badOperand}
 use Rattle.input_data.specs.Checks.{tooMany, badChoiceAt, badChoices, badMaxPreference, manyConstraints, badKindAt, badKinds, badOperandAt, badOperands, badDayKinds, badDayOperands, memberCount, badMember, badMembers, badGroups, firstOf, lateNumber, dayNumber}
@@ -38,11 +39,11 @@ pub record Accepted (l : Limits) (d : InputData) : Type 0 where
 
 -- what else a call tests does not apply either
 pub record Past (b : Beside) (rest : ℕ) : Type 0 where
-  pub lengths : b .lengths ≡ false
-  pub preferences : b .preferences ≡ false
-  pub levels : b .levels ≡ false
-  pub costs : b .costs ≡ false
-  pub asked : b .asked ≡ false
+  pub lengths : b .«bad_lengths» ≡ false
+  pub preferences : b .«bad_preferences» ≡ false
+  pub levels : b .«bad_levels» ≡ false
+  pub costs : b .«bad_costs» ≡ false
+  pub asked : b .«bad_asked» ≡ false
   pub none : rest ≡ 0
 
 -- a number of 0: the test does not apply, and what is left gives 0
@@ -132,8 +133,8 @@ module _ (l : Limits) (d : InputData) where
       let s8 = first-zero _ 8 _ (omega arith) (s7 .1) in
       let s9 = first-zero _ 9 _ (omega arith) (s8 .1) in
       let s10 = first-zero _ 10 _ (omega arith) (s9 .1) in
-      let p : (badMaxPreference (d .«max_preference») ≡ false) × (b .preferences ≡ false) = or-split (s4 .0) in
-      let o : (badDayOperands d ≡ false) × (b .asked ≡ false) = or-split (s9 .0) in (
+      let p : (badMaxPreference (d .«max_preference») ≡ false) × (b .«bad_preferences» ≡ false) = or-split (s4 .0) in
+      let o : (badDayOperands d ≡ false) × (b .«bad_asked» ≡ false) = or-split (s9 .0) in (
         record { many = s1 .0; choices = s3 .0; max-preference = p .0; constraints = s7 .0; kinds = s8 .0; operands = o .0; groups = s10 .0 },
         record { lengths = s2 .0; preferences = p .1; levels = s5 .0; costs = s6 .0; asked = o .1; none = s10 .1 },
       )

@@ -1,12 +1,13 @@
 -- Check 9 by the kind's number, where 8 does not apply, is check 9 of the Rust's constraint. Assumes nothing.
-use Prim.Native.Nat.{ℕ, _-_, _<_, _≤_}
-use mathlib.Core.Path.{_≡_, refl, sym, ap, _∙_}
+use Prim.Native.Nat.{ℕ, _-_}
+use mathlib.Core.Path.{_≡_, refl, ap}
 use mathlib.Core.Bool.{Bool, true, false, cond, not, _&&_, _||_}
 use native.Mathlib.Omega.{arith}
 use lib.Dec.{eqb, ltb}
 use borrow.Author.Tests.{ltb-false}
-use Rattle.counting.specs.Fold.{fold-ext}
-use Rattle.counting.specs.Tests.{eq-cases, bool-cases, or-split, faultBelow, someBelow, none-each}
+use Rattle.counting.specs.FoldLaws.{fold-ext}
+use Rattle.counting.specs.Tests.{eq-cases, bool-cases, or-split, none-each}
+use Rattle.counting.specs.Fold.{faultBelow, someBelow}
 use Rattle.constraint.specs.Kind.{kindOf}
 use Rattle.constraint.specs.Cases.{targetCase, targetOperand, targetOf, extraCase, extraOf}
 use Rattle.input_data.specs.declared.ConstraintNumbers.{ConstraintNumbers}

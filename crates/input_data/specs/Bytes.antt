@@ -85,7 +85,7 @@ dayOf b = record {
 
 -- what a call tests beside the day, where something else that it is lent as bytes may have not its length
 abbrev pub wider : Bool → Beside → Beside
-wider wrong b = record { lengths = wrong || b .lengths; preferences = b .preferences; levels = b .levels; costs = b .costs; asked = b .asked }
+wider wrong b = record { «bad_lengths» = wrong || b .«bad_lengths»; «bad_preferences» = b .«bad_preferences»; «bad_levels» = b .«bad_levels»; «bad_costs» = b .«bad_costs»; «bad_asked» = b .«bad_asked» }
 
 -- The number of a call that is lent a day as bytes and that gives n where all bytes have their lengths.
 -- A wrong length of the day is 2 at once, since nothing of it can be read; one of anything else is 2 in its place, after 1.

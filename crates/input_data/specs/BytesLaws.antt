@@ -13,9 +13,8 @@ use mathlib.Core.Bool.{Bool, false}
 use lib.ListN.{getD}
 use Rattle.counting.specs.Lists.{table-at}
 use Rattle.input_data.specs.Day.{minAt, maxAt, optionalAt, numbersAt, noNumbers}
-use lib.Dec.{eqb}
 use lib.ListN.{length}
-use mathlib.Core.Bool.{true, not, _||_}
+use mathlib.Core.Bool.{true, not}
 use borrow.Author.Tests.{eqb-true, eq-eqb, ne-eqb, not-false}
 use mathlib.Core.Logic.{_≢_}
 use Rattle.counting.specs.Tests.{bool-cases}

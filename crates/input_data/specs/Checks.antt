@@ -5,8 +5,7 @@ use mathlib.Core.List.{List}
 use lib.Dec.{ltb, leb}
 use lib.IntN.{ℤ, pos, negsuc}
 use lib.ListN.{length, getD}
-use Rattle.counting.specs.Fold.{gate, sumTo, anyTo}
-use Rattle.counting.specs.Tests.{someBelow}
+use Rattle.counting.specs.Fold.{gate, sumTo, anyTo, someBelow}
 use Rattle.input_data.specs.Day.{numbersAt, constraintAt}
 use Rattle.input_data.specs.Operands.{badOperand}
 use Rattle.input_data.specs.declared.Limits.{Limits}
@@ -116,8 +115,8 @@ lateNumber d asked rest =
 unfoldable pub dayNumber : Limits → InputData → Beside → ℕ → ℕ
 dayNumber l d b rest =
     firstOf (tooMany l (d .choosers) (d .choices) (d .slots)) 1
-    (firstOf (b .lengths) 2
+    (firstOf (b .«bad_lengths») 2
     (firstOf (badChoices (d .choices) (d .mins) (d .maxs)) 3
-    (firstOf (badMaxPreference (d .«max_preference») || b .preferences) 4
-    (firstOf (b .levels) 5
-    (firstOf (b .costs) 6 (lateNumber d (b .asked) rest))))))
+    (firstOf (badMaxPreference (d .«max_preference») || b .«bad_preferences») 4
+    (firstOf (b .«bad_levels») 5
+    (firstOf (b .«bad_costs») 6 (lateNumber d (b .«bad_asked») rest))))))

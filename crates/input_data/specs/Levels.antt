@@ -1,14 +1,14 @@
 -- Levels that ascend are at most max_preference if the last one is. Assumes nothing.
 use Prim.Native.Nat.{ℕ, zero, suc, _+_, _-_, _<_, _≤_}
 use mathlib.Core.Path.{_≡_, refl, sym, ap₂, _∙_}
-use mathlib.Core.Bool.{Bool, true, false, _||_, _&&_}
+use mathlib.Core.Bool.{Bool, true, false, _||_}
 use mathlib.Core.List.{List}
 use native.Mathlib.Omega.{arith}
-use native.Mathlib.Numerals.{add-one}
 use lib.Dec.{ltb, leb}
 use lib.ListN.{length, getD}
-use borrow.Author.Tests.{ltb-false, leb-false, le-ltb, lt-ltb, lt-leb}
-use Rattle.counting.specs.Fold.{anyTo, fold-none, fold-at}
+use borrow.Author.Tests.{ltb-false, leb-false, le-ltb, lt-ltb}
+use Rattle.counting.specs.Fold.{anyTo}
+use Rattle.counting.specs.FoldLaws.{fold-none, fold-at}
 use Rattle.counting.specs.Tests.{bool-cases, eq-cases, lt-cases, Passes, some-passes, one-passes, none-each, each-none}
 use Rattle.input_data.specs.Checks.{badLevelAt, badLevels}
 

@@ -1,7 +1,7 @@
 -- An accepted constraint is told by its numbers as they stand. Assumes nothing.
 use Prim.Native.Nat.{ℕ, _<_}
 use mathlib.Core.Path.{_≡_, sym}
-use mathlib.Core.Bool.{true, false}
+use mathlib.Core.Bool.{false}
 use mathlib.Core.List.{List, [], _∷_}
 use mathlib.Core.Logic.{_≢_}
 use native.Mathlib.Omega.{arith}

@@ -1,16 +1,18 @@
-// input_data.rs: the day, its limits, the bytes in which it is lent, and checks 1 to 10 of document 01.
+// input_data.rs: the day, its limits, the bytes in which it is lent, and what accepted ones satisfy.
 mod bytes;
 mod checks;
 mod constraints;
 mod decode;
-mod tables;
 
 pub use bytes::assignment_count;
 pub use bytes::choices;
 pub use bytes::choosers;
 pub use bytes::flag;
+pub use bytes::groups;
+pub use bytes::length_at;
 pub use bytes::max_at;
 pub use bytes::max_preference;
+pub use bytes::member_at;
 pub use bytes::min_at;
 pub use bytes::numbers_at;
 pub use bytes::optional_at;
@@ -19,7 +21,6 @@ pub use bytes::signed;
 pub use bytes::slots;
 pub use bytes::word;
 pub use checks::Beside;
-pub use checks::day_number;
 pub use checks::first;
 pub use checks::too_many;
 pub use decode::assignment_of;
@@ -28,9 +29,6 @@ pub use decode::maxs_of;
 pub use decode::mins_of;
 ghost use mathlib.Core.Path.{_≡_};
 ghost use Rattle.input_data.specs.Lengths.{fullDay};
-pub use tables::bad_costs;
-pub use tables::bad_levels;
-pub use tables::bad_preferences;
 
 // How many choosers, choices and slots there may be. Strides and named lengths follow from these.
 pub struct Limits {

@@ -1,5 +1,5 @@
 -- The edges of the flow model, from document 01, "The model". Definitions only.
-use Prim.Native.Nat.{ℕ, _+_, _-_, _*_}
+use Prim.Native.Nat.{ℕ, _+_, _-_, _*_, _≤_}
 use mathlib.Core.Bool.{Bool, false, not, _&&_}
 use mathlib.Core.List.{List, [], _∷_, _++_, map}
 use lib.Dec.{eqb, leb}
@@ -7,7 +7,7 @@ use lib.IntN.{ℤ, pos}
 use lib.ListN.{getD}
 use Rattle.counting.specs.Fold.{onlyIf, joinTo}
 use Rattle.scheduling.specs.Schedule.{entryAt}
-use Rattle.schedule_state.specs.Blocks.{cell}
+use Rattle.blocks.specs.Blocks.{cell}
 use Rattle.input_data.specs.declared.Sizes.{Sizes}
 use Rattle.mip_flow_static_data.specs.Nodes.{chooserNode, choiceNode, slotNode}
 
@@ -106,3 +106,9 @@ edgesMax mins maxs seats choices = map seatMax seats ++ map (choiceMax mins maxs
 
 abbrev pub edgesCost : Offer → List Seat → List ℕ → List ℤ
 edgesCost o seats choices = map (seatCost o) seats ++ map choiceCost choices
+
+-- sizes whose nodes can be numbered
+pub record SmallSizes (z : Sizes) : Type 0 where
+  pub choosers : z .choosers ≤ 64
+  pub choices : z .choices ≤ 32
+  pub slots : z .slots ≤ 8

@@ -1,5 +1,6 @@
 -- mip_flow.rs: the edges of the flow model and the buffers that hold them.
 pub mod Edges
 pub mod Index
+pub mod IndexLaws
 pub mod Stored
-pub mod Lengths
+pub mod Lent

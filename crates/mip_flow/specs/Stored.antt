@@ -1,26 +1,29 @@
 -- The four lent tables of the edges, and the table of numbers, after edges were stored. Definitions and their laws.
 use Prim.Native.Nat.{ℕ, _+_, _*_, _≤_, _<_}
-use mathlib.Core.Path.{_≡_, refl, sym, ap, _∙_}
-use mathlib.Core.Bool.{Bool, true, false, not, _&&_, and-false}
+use mathlib.Core.Path.{_≡_, refl, ap, _∙_}
+use mathlib.Core.Bool.{true, false, not}
 use mathlib.Core.List.{List, [], _∷_, _++_, map, map-append}
 use mathlib.Core.Logic.{_≢_}
-use native.Mathlib.Nat.{add-zero, mul-one}
+use native.Mathlib.Nat.{mul-one}
 use native.Mathlib.Omega.{arith}
-use lib.Dec.{eqb, leb}
+use lib.Dec.{eqb}
 use lib.IntN.{ℤ, pos}
-use lib.ListN.{length, getD, set, take, drop, length-map, length-append}
-use borrow.Author.Tests.{le-leb, lt-leb, eq-eqb, ne-eqb}
-use Rattle.counting.specs.Fold.{onlyIf, joinTo, sumTo, fold-more, fold-ext, fold-at}
+use lib.ListN.{length, getD, set, take, drop, length-map}
+use borrow.Author.Tests.{eq-eqb, ne-eqb}
+use Rattle.counting.specs.Fold.{joinTo, sumTo}
+use Rattle.counting.specs.FoldLaws.{fold-more, fold-ext}
 use Rattle.counting.specs.Lists.{length-join-most, length-join-sum, only-length}
 use Rattle.counting.specs.Sums.{sum-mono}
-use Rattle.counting.specs.Written.{written, written-append, written-none, length-written, Storing, Put}
+use Rattle.counting.specs.Written.{written}
+use Rattle.counting.specs.WrittenLaws.{written-append, length-written, Storing, Put}
 use Rattle.scheduling.specs.Schedule.{entryAt}
-use Rattle.slot_lists.specs.Lists.{part-length, part-at}
-use Rattle.schedule_state.specs.Blocks.{cell}
+use Rattle.slot_lists.specs.ListsLaws.{part-length, part-at}
+use Rattle.blocks.specs.Blocks.{cell}
 use Rattle.input_data.specs.declared.Sizes.{Sizes}
-use Rattle.mip_flow_static_data.specs.Nodes.{chooserNode, choiceNode, slotNode}
-use Rattle.mip_flow.specs.Edges.{Offer, Seat, seat, preferenceOf, isBlocked, isOpen, seatAt, listedSeat, slotSeats, slotSeatsAt, chooserSeats, openSeats, placeAt, scheduled, seatFrom, seatTo, seatMax, seatCost, choiceTo, choiceMax, choiceCost}
-use Rattle.mip_flow.specs.Index.{seatCell, indexed, indexed-append, length-indexed}
+use Rattle.mip_flow_static_data.specs.Nodes.{chooserNode, choiceNode}
+use Rattle.mip_flow.specs.Edges.{Offer, Seat, seat, isOpen, seatAt, listedSeat, slotSeats, slotSeatsAt, chooserSeats, placeAt, seatFrom, seatTo, seatMax, seatCost, choiceTo, choiceMax, choiceCost}
+use Rattle.mip_flow.specs.Index.{seatCell}
+use Rattle.mip_flow.specs.IndexLaws.{indexed, indexed-append}
 
 -- the four tables
 pub record Tables : Type 0 where
@@ -112,17 +115,11 @@ pub record OneChoice (b : Tables) (n f t m : ℕ) (b′ : Tables) (r : ℕ) : Ty
   pub holds : b′ ≡ choiceSet b n f t m
 
 module _ (o : Offer) (c s k : ℕ) where
-  pub seat-far : o .limit < preferenceOf o c k → seatAt o c s k ≡ []
-  unfolding isOpen
-  seat-far h = rw (lt-leb _ _ h)
+  pub seat-shut : isOpen o c k ≡ false → seatAt o c s k ≡ []
+  seat-shut h = rw h
 
-  pub seat-blocked : isBlocked o c k ≡ true → seatAt o c s k ≡ []
-  unfolding isOpen
-  seat-blocked h = rw (h, and-false)
-
-  pub seat-open : preferenceOf o c k ≤ o .limit → isBlocked o c k ≡ false → seatAt o c s k ≡ seat c s k ∷ []
-  unfolding isOpen
-  seat-open h b = rw (le-leb _ _ h, b)
+  pub seat-open : isOpen o c k ≡ true → seatAt o c s k ≡ seat c s k ∷ []
+  seat-open h = rw h
 
 -- a stored edge that is that of the seat
 pub put-seat : (o : Offer) (c s k : ℕ) {b b′ : Indexed} {n f t p r : ℕ} {v : ℤ} → seatAt o c s k ≡ seat c s k ∷ []
@@ -133,9 +130,6 @@ put-seat o c s k e q hf ht hv hp = rw e (record { count = q .count; holds = q .h
 
 pub choice-none : (sch : List ℕ) (k : ℕ) → entryAt sch k ≡ 0 → placeAt sch k ≡ []
 choice-none sch k e = rw (eq-eqb _ _ e)
-
-pub choice-some : (sch : List ℕ) (k : ℕ) → entryAt sch k ≢ 0 → placeAt sch k ≡ k ∷ []
-choice-some sch k e = rw (ne-eqb _ _ e)
 
 pub put-choice : (y : Choices) (k : ℕ) {b b′ : Tables} {n f t m r : ℕ} → entryAt (y .entries) k ≢ 0
     → OneChoice b n f t m b′ r → f ≡ choiceNode (y .sizes) k → t ≡ choiceTo (y .sizes) (y .entries) k → m ≡ choiceMax (y .mins) (y .maxs) k
@@ -154,25 +148,21 @@ pub record Room (b : Tables) (n m : ℕ) : Type 0 where
   pub small : n + m ≤ 2080
 
 -- a store keeps the lengths
-pub record Alike (b b′ : Tables) : Type 0 where
+pub record SameLengths (b b′ : Tables) : Type 0 where
   pub from : length (b′ .from) ≡ length (b .from)
   pub to : length (b′ .to) ≡ length (b .to)
   pub max : length (b′ .max) ≡ length (b .max)
   pub cost : length (b′ .cost) ≡ length (b .cost)
 
-pub seats-alike : (o : Offer) {b b′ : Indexed} {n n′ : ℕ} {qs : List Seat} → Put (storingSeats o) b n qs b′ n′ → Alike (b .tables) (b′ .tables)
+pub seats-alike : (o : Offer) {b b′ : Indexed} {n n′ : ℕ} {qs : List Seat} → Put (storingSeats o) b n qs b′ n′ → SameLengths (b .tables) (b′ .tables)
 unfolding storingSeats storeSeats
 seats-alike o p = rw (p .holds) (record { from = length-written _ _ _; to = length-written _ _ _; max = length-written _ _ _; cost = length-written _ _ _ })
 
-pub seats-index : (o : Offer) {b b′ : Indexed} {n n′ : ℕ} {qs : List Seat} → Put (storingSeats o) b n qs b′ n′ → length (b′ .index) ≡ length (b .index)
-unfolding storingSeats storeSeats
-seats-index o p = rw (p .holds) (length-indexed _ _ _)
-
-pub choices-alike : (y : Choices) {b b′ : Tables} {n n′ : ℕ} {ks : List ℕ} → Put (storingChoices y) b n ks b′ n′ → Alike b b′
+pub choices-alike : (y : Choices) {b b′ : Tables} {n n′ : ℕ} {ks : List ℕ} → Put (storingChoices y) b n ks b′ n′ → SameLengths b b′
 unfolding storingChoices storeChoices
 choices-alike y p = rw (p .holds) (record { from = length-written _ _ _; to = length-written _ _ _; max = length-written _ _ _; cost = length-written _ _ _ })
 
-pub room-later : {b b′ : Tables} {n n′ m m′ : ℕ} → Room b n m → Alike b b′ → n′ + m′ ≤ n + m → Room b′ n′ m′
+pub room-later : {b b′ : Tables} {n n′ m m′ : ℕ} → Room b n m → SameLengths b b′ → n′ + m′ ≤ n + m → Room b′ n′ m′
 room-later r a h = record {
   from = omega (arith, r .from, a .from);
   to = omega (arith, r .to, a .to);

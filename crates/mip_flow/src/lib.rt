@@ -1,44 +1,52 @@
-// mip_flow.rs: the edges of the flow model, and the lengths of the buffers that hold a model.
-mod edges;
-
-pub use edges::put_choices;
-pub use edges::put_seats;
-use input_data::Limits;
+// mip_flow.rs and solve_with_limit of assignment_solver.rs: which seats have an edge, and what an edge is
+// made of.
+use input_data::Sizes;
 ghost use mathlib.Core.Path.{_≡_};
-ghost use Rattle.input_data.specs.Lengths.{Within};
-ghost use Rattle.mip_flow.specs.Lengths.{shortEdges, shortGroups, shortBuffers};
+ghost use mathlib.Core.Bool.{false, not, _&&_};
+ghost use Prim.Native.Nat.{_+_, _-_, _*_, _<_, _≤_};
+ghost use lib.Dec.{leb};
+ghost use lib.IntN.{pos};
+ghost use lib.ListN.{length, getD};
+ghost use Rattle.counting.specs.Lent.{old};
+ghost use Rattle.blocks.specs.Blocks.{cell};
+ghost use Rattle.mip_flow_static_data.specs.Nodes.{slotNode};
+ghost use Rattle.mip_flow.specs.Edges.{SmallSizes};
 
-// How long the eight lent buffers of a model are.
-pub struct Lengths {
-    pub supplies: usize,
-    pub from: usize,
-    pub to: usize,
-    pub max: usize,
-    pub cost: usize,
-    pub entries: usize,
-    pub ends: usize,
-    pub blocked: usize,
+// A seat has an edge if the preference is at most the limit and no block applies.
+pub fn has_edge(limit: u32, preference: u32, blocked: bool) -> bool
+    ensures { λ r. ⌜ r ≡ (leb preference limit && not blocked) ⌝ }
+{
+    (preference <= limit) & !blocked
 }
 
-fn short_edges(limits: Limits, lengths: Lengths) -> bool
-    requires { ⌜ Within limits ⌝ }
-    ensures { λ r. ⌜ r ≡ shortEdges limits lengths ⌝ }
+// Whether a block applies to chooser c and choice k.
+pub fn is_blocked(blocks: &[bool; 2048], c: usize, k: usize) -> bool
+    requires { ⌜ (c < 64) × (k < 32) ⌝ }
+    ensures { λ r. ⌜ r ≡ getD (old blocks) (cell c k) false ⌝ }
 {
-    let edges = limits.choosers * limits.choices + limits.choices;
-    (lengths.from < edges) | (lengths.to < edges) | (lengths.max < edges) | (lengths.cost < edges)
+    blocks[32 * c + k]
 }
 
-fn short_groups(lengths: Lengths) -> bool
-    ensures { λ r. ⌜ r ≡ shortGroups lengths ⌝ }
+// What an edge costs: the cost of the preference.
+pub fn edge_cost(costs: &[i64], preference: u32) -> i64
+    requires { ⌜ preference < length (now costs) ⌝ }
+    ensures { λ r. ⌜ r ≡ getD (old costs) preference (pos 0) ⌝ }
 {
-    (lengths.entries < 4096) | (lengths.ends < 2048) | (lengths.blocked < 4096)
+    costs[preference as usize]
 }
 
-// 2. One of the buffers is shorter than its named length.
-pub fn short_buffers(limits: Limits, lengths: Lengths) -> bool
-    requires { ⌜ Within limits ⌝ }
-    ensures { λ r. ⌜ r ≡ shortBuffers limits lengths ⌝ }
+// The max of the edge of a choice to its slot.
+pub fn choice_width(min: u32, max: u32) -> u32
+    requires { ⌜ min ≤ max ⌝ }
+    ensures { λ r. ⌜ r ≡ max - min ⌝ }
 {
-    let nodes = limits.choosers * limits.slots + limits.choices + limits.slots;
-    (lengths.supplies < nodes) | short_edges(limits, lengths) | short_groups(lengths)
+    max - min
+}
+
+// The node of slot s.
+pub fn slot_node(sizes: Sizes, s: usize) -> usize
+    requires { ⌜ SmallSizes sizes × (s < 8) ⌝ }
+    ensures { λ r. ⌜ r ≡ slotNode sizes s ⌝ }
+{
+    sizes.choosers * sizes.slots + sizes.choices + s
 }

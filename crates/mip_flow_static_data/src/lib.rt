@@ -7,6 +7,7 @@ ghost use lib.Dec.{eqb};
 ghost use lib.IntN.{pos, negℤ};
 ghost use lib.ListN.{length};
 ghost use Rattle.counting.specs.Fold.{tableTo};
+ghost use Rattle.counting.specs.Lent.{old, new};
 ghost use Rattle.counting.specs.Written.{written};
 ghost use Rattle.scheduling.specs.Schedule.{entryAt};
 ghost use Rattle.mip_flow_static_data.specs.Nodes.{nodeCount, chooserSupply, choiceSupply, slotSupply, supplies, Supplying};
@@ -25,7 +26,7 @@ fn choice_supply(entry: u8, min: u32) -> i32
 // A chooser in a slot supplies 1.
 fn put_chooser_supplies(out: &mut [i32], n: usize)
     requires { ⌜ n ≤ length (now out) ⌝ }
-    ensures { λ _. ⌜ now (out .exit) ≡ written (now (out .entry)) 0 (tableTo n chooserSupply) ⌝ }
+    ensures { λ _. ⌜ new out ≡ written (old out) 0 (tableTo n chooserSupply) ⌝ }
 {
     let mut i = 0;
     while i < n {
@@ -42,7 +43,7 @@ fn put_choice_supplies<'a>(
     at: usize,
 )
     requires { ⌜ (choices ≤ 32) × (at + choices ≤ length (now out)) × ((k : ℕ) → k < choices → entryAt (now mins) k ≤ 1000) ⌝ }
-    ensures { λ _. ⌜ now (out .exit) ≡ written (now (out .entry)) at (tableTo choices (choiceSupply (now (entries .entry)) (now (mins .entry)))) ⌝ }
+    ensures { λ _. ⌜ new out ≡ written (old out) at (tableTo choices (choiceSupply (old entries) (old mins))) ⌝ }
 {
     let mut k = 0;
     while k < choices {
@@ -52,8 +53,9 @@ fn put_choice_supplies<'a>(
 }
 
 fn put_slot_supplies(sizes: Sizes, covered: &[u32; 8], out: &mut [i32], at: usize)
-    requires { ⌜ (sizes .slots ≤ 8) × (sizes .choosers ≤ 64) × (at + sizes .slots ≤ length (now out)) × ((s : ℕ) → s < sizes .slots → entryAt (now covered) s ≤ 32000) ⌝ }
-    ensures { λ _. ⌜ now (out .exit) ≡ written (now (out .entry)) at (tableTo (sizes .slots) (slotSupply sizes (now (covered .entry)))) ⌝ }
+    requires { ⌜ (sizes .slots ≤ 8) × (sizes .choosers ≤ 64) × (at + sizes .slots ≤ length (now out))
+        × ((s : ℕ) → s < sizes .slots → entryAt (now covered) s ≤ 32000) ⌝ }
+    ensures { λ _. ⌜ new out ≡ written (old out) at (tableTo (sizes .slots) (slotSupply sizes (old covered))) ⌝ }
 {
     let slots = sizes.slots;
     let choosers = sizes.choosers as u32;
@@ -73,7 +75,7 @@ pub fn put_supplies<'a>(
     out: &mut [i32],
 )
     requires { ⌜ Supplying sizes (now mins) (now covered) (length (now out)) ⌝ }
-    ensures { λ _. ⌜ now (out .exit) ≡ written (now (out .entry)) 0 (supplies sizes (now (entries .entry)) (now (mins .entry)) (now (covered .entry))) ⌝ }
+    ensures { λ _. ⌜ new out ≡ written (old out) 0 (supplies sizes (old entries) (old mins) (old covered)) ⌝ }
 {
     let n = sizes.choosers * sizes.slots;
     put_chooser_supplies(out, n);

@@ -19,8 +19,8 @@ use Rattle.counting.specs.Tests.{bool-cases, eq-cases, lt-cases, or-split, none
 use Rattle.input_data.specs.declared.Limits.{Limits}
 use Rattle.scheduling.specs.Schedule.{entryAt}
 use Rattle.mip_flow_static_data.specs.Nodes.{chooserSupply, choiceSupply, slotSupply, supplies}
-use Rattle.edge_values.specs.Values.{valueAt, outside, outsideAt, someOutside, flowAt, flow, unbalancedAt, someUnbalanced}
-use Rattle.plans.specs.Model.{ModelInput, sizesOf, scheduleOf, networkOf}
+use Rattle.edge_values.specs.Values.{valueAt, outOfBounds, outsideAt, someOutside, flowAt, flow, unbalancedAt, someUnbalanced}
+use Rattle.plans.specs.Model.{ModelInput, sizesOf, entriesOf, networkOf}
 use Rattle.plans.specs.Good.{Good}
 use Rattle.counting.specs.Sums.{grid-lt}
 use Rattle.plans.specs.Flow.{ByKind, Accepted, meets, coveredOf}
@@ -57,11 +57,11 @@ whole (pos a) e = refl
 whole (negsuc a) e = never (sym e)
 
 -- 14 does not apply to a value
-inside : (v : ℤ) (max : ℕ) → outside v max ≡ false → (nonNeg v ≡ true) × (mag v ≤ max)
+inside : (v : ℤ) (max : ℕ) → outOfBounds v max ≡ false → (nonNeg v ≡ true) × (mag v ≤ max)
 inside (pos a) max e = let r : (ltb a 0 ≡ false) × (ltb max a ≡ false) = or-split e in (refl, ltb-false max a (r .1))
 inside (negsuc a) max e = never e
 
-not-outside : (v : ℤ) (max : ℕ) → nonNeg v ≡ true → mag v ≤ max → outside v max ≡ false
+not-outside : (v : ℤ) (max : ℕ) → nonNeg v ≡ true → mag v ≤ max → outOfBounds v max ≡ false
 not-outside (pos a) max e h = rw (le-ltb a 0 (omega arith), le-ltb max a h)
 not-outside (negsuc a) max e h = never (sym e)
 
@@ -92,19 +92,19 @@ module _ (l : Limits) (x : ModelInput) (g : Good l x) where
   K = x .day .choices
 
   abbrev E : ℕ → ℕ
-  E = entryAt (scheduleOf x)
+  E = entryAt (entriesOf x)
 
   abbrev ofChoosers : List ℤ
   ofChoosers = tableTo (C * S) chooserSupply
 
   abbrev ofChoices : List ℤ
-  ofChoices = tableTo K (choiceSupply (scheduleOf x) (x .day .mins))
+  ofChoices = tableTo K (choiceSupply (entriesOf x) (x .day .mins))
 
   abbrev ofSlots : List ℤ
   ofSlots = tableTo S (slotSupply (sizesOf l (x .day)) (x .state .covered))
 
   front : length (ofChoosers ++ ofChoices) ≡ C * S + K
-  front = omega (arith, length-append ofChoosers ofChoices, length-table (C * S) chooserSupply, length-table K (choiceSupply (scheduleOf x) (x .day .mins)))
+  front = omega (arith, length-append ofChoosers ofChoices, length-table (C * S) chooserSupply, length-table K (choiceSupply (entriesOf x) (x .day .mins)))
 
   abbrev supply : ℕ → ℤ
   supply p = getD (networkOf l x .supplies) p (pos 0)
@@ -120,12 +120,12 @@ module _ (l : Limits) (x : ModelInput) (g : Good l x) where
       ∙ List·getD-append ofChoosers ofChoices (pos 0) p (omega (arith, length-table (C * S) chooserSupply))
       ∙ table-at (C * S) chooserSupply (pos 0) p h
 
-  supply-at : (k : ℕ) → k < K → supply (C * S + k) ≡ choiceSupply (scheduleOf x) (x .day .mins) k
+  supply-at : (k : ℕ) → k < K → supply (C * S + k) ≡ choiceSupply (entriesOf x) (x .day .mins) k
   unfolding networkOf supplies
   supply-at k h =
       List·getD-append (ofChoosers ++ ofChoices) ofSlots (pos 0) (C * S + k) (omega (arith, front))
       ∙ append-at ofChoosers ofChoices (pos 0) (C * S) k (length-table (C * S) chooserSupply)
-      ∙ table-at K (choiceSupply (scheduleOf x) (x .day .mins)) (pos 0) k h
+      ∙ table-at K (choiceSupply (entriesOf x) (x .day .mins)) (pos 0) k h
 
   supply-choice : (k : ℕ) → k < K → E k ≢ 0 → supply (C * S + k) ≡ subℕ 0 (frameOf l x g .least k)
   supply-choice k h d = supply-at k h ∙ rw (ne-eqb (E k) 0 d) (negation (entryAt (x .day .mins) k))

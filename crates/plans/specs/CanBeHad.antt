@@ -9,8 +9,8 @@ use lib.IntN.{ℤ}
 use lib.ListN.{getD}
 use Rattle.input_data.specs.Lengths.{Within}
 use Rattle.input_data.specs.declared.Limits.{Limits}
-use Rattle.mip_flow.specs.declared.Lengths.{Lengths}
-use Rattle.plans.specs.Model.{ModelInput, scheduleOf, modelNumber, checkNumber, planOf}
+use Rattle.model_buffers.specs.declared.Lengths.{Lengths}
+use Rattle.plans.specs.Model.{ModelInput, entriesOf, modelNumber, checkNumber, planOf}
 use Rattle.plans.specs.Seatable.{Seatable, choiceIn}
 
 -- document 01: a plan can be had from a state, at a limit, when some accepted values decode to it
@@ -25,13 +25,13 @@ pub record CanBeHad (l : Limits) (x : ModelInput) (plan : List ℕ) : Type 0 whe
 abbrev pub PlansSeatable : Type 0
 PlansSeatable =
     (l : Limits) → Within l → (x : ModelInput) (lengths : Lengths) → modelNumber l x lengths ≡ 0
-    → (plan : List ℕ) → CanBeHad l x plan ↔ Seatable (x .day) (scheduleOf x) (x .limit) (x .preferences) plan
+    → (plan : List ℕ) → CanBeHad l x plan ↔ Seatable (x .day) (entriesOf x) (x .limit) (x .preferences) plan
 
 -- So states of one day that agree in their schedule have the same plans at every limit, whatever the order of their lists ..
 abbrev pub SamePlans : Type 0
 SamePlans =
     (l : Limits) → Within l → (x y : ModelInput) (lengths : Lengths) → modelNumber l x lengths ≡ 0 → modelNumber l y lengths ≡ 0
-    → x .day ≡ y .day → scheduleOf x ≡ scheduleOf y → x .limit ≡ y .limit → x .preferences ≡ y .preferences
+    → x .day ≡ y .day → entriesOf x ≡ entriesOf y → x .limit ≡ y .limit → x .preferences ≡ y .preferences
     → (plan : List ℕ) → CanBeHad l x plan ↔ CanBeHad l y plan
 
 -- .. and no plan that can be had holds a preference above the limit.

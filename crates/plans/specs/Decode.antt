@@ -3,7 +3,7 @@ use Prim.Native.Nat.{ℕ, zero, suc, _+_, _*_, _≤_, _<_}
 use mathlib.Core.Path.{_≡_, refl, sym, ap, _∙_}
 use mathlib.Core.Bool.{Bool, true, false}
 use mathlib.Core.List.{List, [], _++_}
-use mathlib.Core.Logic.{_≢_, _↔_}
+use mathlib.Core.Logic.{_≢_}
 use native.Mathlib.Omega.{arith}
 use lib.Dec.{eqb, ltb}
 use lib.IntN.{ℤ, pos, negsuc}
@@ -11,11 +11,13 @@ use lib.Signed.{mag, nonNeg}
 use lib.ListN.{length, getD, List·getD-append}
 use lib.Seq.{getD-append-add}
 use borrow.Author.Tests.{eqb-true, eq-eqb, lt-ltb, le-ltb, ltb-true}
-use Rattle.counting.specs.Fold.{gate, sumTo, joinTo, tableTo, fold-suc}
-use Rattle.counting.specs.Holds.{holds-in, holds-has}
+use Rattle.counting.specs.Fold.{gate, sumTo, joinTo, tableTo}
+use Rattle.counting.specs.FoldLaws.{fold-suc}
+use Rattle.counting.specs.HoldsLaws.{holds-in, holds-has}
 use Rattle.counting.specs.Ints.{eqZ}
 use Rattle.counting.specs.Lists.{length-table, table-at, length-join}
-use Rattle.counting.specs.Search.{firstTo, first-passes, first-found}
+use Rattle.counting.specs.Search.{firstTo}
+use Rattle.counting.specs.SearchLaws.{first-passes, first-found}
 use Rattle.counting.specs.Sums.{sum-const, OneHot, one-hot, one-hot-same, grid-lt}
 use Rattle.counting.specs.Tests.{eq-cases, lt-cases, and-split, never}
 use Rattle.input_data.specs.Accepted.{first-zero}
@@ -26,10 +28,10 @@ use Rattle.input_data.specs.declared.Limits.{Limits}
 use Rattle.scheduling.specs.Schedule.{entryAt}
 use Rattle.schedule_state.specs.Good.{choices-most}
 use Rattle.mip_flow.specs.Index.{edgeOf}
-use Rattle.mip_flow.specs.declared.Lengths.{Lengths}
-use Rattle.edge_values.specs.Decode.{isOne, hasOne, choiceFor, decoded}
+use Rattle.model_buffers.specs.declared.Lengths.{Lengths}
+use Rattle.decoding.specs.Decode.{isOne, hasOne, choiceFor, decoded}
 use Rattle.edge_values.specs.Values.{Network, valueAt, someOutside, someUsed, someUneven, someUnbalanced, valuesNumber}
-use Rattle.plans.specs.Model.{ModelInput, scheduleOf, countOf, listOf, seatsOf, networkOf, planOf, numberWith}
+use Rattle.plans.specs.Model.{ModelInput, entriesOf, countOf, listOf, seatsOf, networkOf, planOf, numberWith}
 use Rattle.plans.specs.Read.{read}
 use Rattle.plans.specs.Good.{Good, good}
 use Rattle.plans.specs.Pairs.{gate-on, gate-one, and-join, sum-ext, value}
@@ -91,7 +93,7 @@ module _ (l : Limits) (x : ModelInput) where
   K = x .day .choices
 
   abbrev E : ℕ → ℕ
-  E = entryAt (scheduleOf x)
+  E = entryAt (entriesOf x)
 
   -- what 14 and 17 say of values by chooser and choice
   pub record ReadFlow (X : ℕ → ℕ → ℕ) : Type 0 where
@@ -187,13 +189,6 @@ module _ (l : Limits) (x : ModelInput) where
           slot = eqb-true (E (chosen c s)) (suc s) (m .1);
           one = eqb-true (X c (chosen c s)) 1 (sym (one-read c (chosen c s) h b) ∙ first-passes (countOf x s) (finds c s) f);
         }
-
-    -- the decoded choice is the one of the slot whose edge has 1
-    pub chosen-iff : (c s k : ℕ) → c < C → s < S → k < K → (chosen c s ≡ k) ↔ ((E k ≡ suc s) × (read (seatsOf l x) vs c k ≡ 1))
-    chosen-iff c s k h i j = (
-      (λ e. (ap E (sym e) ∙ chosen-has c s h i .slot, ap (X c) (sym e) ∙ chosen-has c s h i .one)),
-      (λ r. has-same c s (chosen c s) k h i (chosen-has c s h i) (record { choice = j; slot = r .0; one = r .1 })),
-    )
 
   module _ (vs : List ℤ) where
     pub plan-length : length (planOf l x vs) ≡ C * S

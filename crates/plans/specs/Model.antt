@@ -7,11 +7,10 @@ use lib.Dec.{eqb, ltb}
 use lib.IntN.{ℤ}
 use lib.ListN.{length}
 use Rattle.input_data.specs.Checks.{badPreferences, badCosts}
-use Rattle.input_data.specs.Lengths.{listsLength, preferencesLength, costsLength, edgesLength, planLength}
+use Rattle.input_data.specs.Lengths.{listsLength, preferencesLength, costsLength}
 use Rattle.input_data.specs.declared.Limits.{Limits}
 use Rattle.input_data.specs.declared.InputData.{InputData}
 use Rattle.input_data.specs.declared.checks.Beside.{Beside}
-use Rattle.scheduling.specs.Schedule.{entryAt}
 use Rattle.slot_lists.specs.Lists.{listed}
 use Rattle.schedule_state.specs.Calls.{stateNumber, slotListLength}
 use Rattle.scheduling.specs.Handed.{keptOf}
@@ -20,12 +19,12 @@ use Rattle.schedule_state.specs.declared.AssignmentScheduleState.{AssignmentSch
 use Rattle.mip_flow_static_data.specs.Nodes.{supplies}
 use Rattle.mip_flow.specs.Edges.{Offer, offer, Seat, openSeats, scheduled, edgesFrom, edgesTo, edgesMax, edgesCost}
 use Rattle.mip_flow.specs.Index.{edgeOf}
-use Rattle.mip_flow.specs.Lengths.{shortBuffers}
-use Rattle.mip_flow.specs.declared.Lengths.{Lengths}
+use Rattle.model_buffers.specs.Lengths.{shortBuffers, shortValues}
+use Rattle.model_buffers.specs.declared.Lengths.{Lengths}
 use Rattle.edge_groups.specs.Names.{names}
 use Rattle.edge_groups.specs.Groups.{groupsOf, blockedOf}
 use Rattle.edge_values.specs.Values.{Network, valuesNumber}
-use Rattle.edge_values.specs.Decode.{decoded}
+use Rattle.decoding.specs.Decode.{decoded}
 
 -- what a model is made from
 pub record ModelInput : Type 0 where
@@ -43,8 +42,8 @@ abbrev pub sizesOf : Limits → InputData → Sizes
 sizesOf l d = record { stride = l .choices; choosers = d .choosers; choices = d .choices; slots = d .slots }
 
 -- the entries of the state's schedule
-abbrev pub scheduleOf : ModelInput → List ℕ
-scheduleOf x = keptOf (x .day) (x .state .schedule)
+abbrev pub entriesOf : ModelInput → List ℕ
+entriesOf x = keptOf (x .day) (x .state .schedule)
 
 -- the length of a slot's list, and what stands in it
 abbrev pub countOf : ModelInput → ℕ → ℕ
@@ -61,20 +60,20 @@ unfoldable pub seatsOf : Limits → ModelInput → List Seat
 seatsOf l x = openSeats (offerOf l x) (countOf x) (listOf l x)
 
 unfoldable pub choicesOf : ModelInput → List ℕ
-choicesOf x = scheduled (x .day .choices) (scheduleOf x)
+choicesOf x = scheduled (x .day .choices) (entriesOf x)
 
 -- the edges that are named together, by number
 unfoldable pub namesOf : Limits → ModelInput → List (List ℕ)
 namesOf l x =
-    names (edgeOf (seatsOf l x)) (sizesOf l (x .day)) (scheduleOf x) (countOf x) (listOf l x)
+    names (edgeOf (seatsOf l x)) (sizesOf l (x .day)) (entriesOf x) (countOf x) (listOf l x)
     (x .day .assignment) (x .day .groups) (x .day .lengths) (x .day .members)
 
 unfoldable pub networkOf : Limits → ModelInput → Network
 networkOf l x = record {
   from = edgesFrom (sizesOf l (x .day)) (seatsOf l x) (choicesOf x);
-  to = edgesTo (sizesOf l (x .day)) (scheduleOf x) (seatsOf l x) (choicesOf x);
+  to = edgesTo (sizesOf l (x .day)) (entriesOf x) (seatsOf l x) (choicesOf x);
   max = edgesMax (x .day .mins) (x .day .maxs) (seatsOf l x) (choicesOf x);
-  supplies = supplies (sizesOf l (x .day)) (scheduleOf x) (x .day .mins) (x .state .covered);
+  supplies = supplies (sizesOf l (x .day)) (entriesOf x) (x .day .mins) (x .state .covered);
   groups = groupsOf (length (seatsOf l x)) (namesOf l x);
   blocked = blockedOf (length (seatsOf l x)) (namesOf l x);
 }
@@ -89,17 +88,17 @@ planOf l x vs = decoded (length (seatsOf l x)) vs (edgeOf (seatsOf l x)) (countO
 -- ---- the numbers of the calls
 
 -- 2. The preferences or the costs have not exactly their length.
-abbrev pub wrongTables : ModelInput → Bool
-wrongTables x = not (eqb (length (x .preferences)) (preferencesLength (x .day))) || not (eqb (length (x .costs)) (costsLength (x .day)))
+abbrev pub wrongModelTables : ModelInput → Bool
+wrongModelTables x = not (eqb (length (x .preferences)) (preferencesLength (x .day))) || not (eqb (length (x .costs)) (costsLength (x .day)))
 
 -- what these calls test beside the day; `short`: another buffer that the call is lent is too short
 abbrev pub besideModel : Limits → ModelInput → Lengths → Bool → Beside
 besideModel l x lens short = record {
-  lengths = wrongTables x || ltb (length (x .lists)) (listsLength l) || shortBuffers l lens || short;
-  preferences = badPreferences (x .day .«max_preference») (x .preferences);
-  levels = false;
-  costs = badCosts (x .costs);
-  asked = false;
+  «bad_lengths» = wrongModelTables x || ltb (length (x .lists)) (listsLength l) || shortBuffers l lens || short;
+  «bad_preferences» = badPreferences (x .day .«max_preference») (x .preferences);
+  «bad_levels» = false;
+  «bad_costs» = badCosts (x .costs);
+  «bad_asked» = false;
 }
 
 abbrev pub numberWith : Limits → ModelInput → Lengths → Bool → ℕ
@@ -109,11 +108,8 @@ numberWith l x lens short = stateNumber l (x .day) (x .state) (besideModel l x l
 abbrev pub modelNumber : Limits → ModelInput → Lengths → ℕ
 modelNumber l x lens = numberWith l x lens false
 
--- checking values: those of the model, with a buffer of values and one for the plan, and then 14 to 17
-abbrev pub shortValues : Limits → ℕ → ℕ → Bool
-shortValues l values plan = ltb values (edgesLength l) || ltb plan (planLength l)
-
--- the number before values are looked at
+-- checking values: those of the model, with a buffer of values and one for the plan, and then 14 to 17; first the number before
+-- values are looked at
 abbrev pub enterNumber : Limits → ModelInput → Lengths → ℕ → ℕ → ℕ
 enterNumber l x lens values plan = numberWith l x lens (shortValues l values plan)
 

@@ -5,10 +5,11 @@ use mathlib.Core.Bool.{Bool, true, false, _&&_}
 use mathlib.Core.List.{List, [], _∷_, _++_}
 use native.Mathlib.Nat.{add-zero, add-suc}
 use native.Mathlib.Omega.{arith}
-use lib.Dec.{eqb, ltb}
+use lib.Dec.{eqb}
 use lib.ListN.{length, getD}
-use borrow.Author.Tests.{eqb-true, eq-eqb, lt-ltb, le-ltb}
-use Rattle.counting.specs.Fold.{foldTo, gate, sumTo, joinTo, onlyIf, fold-ext, fold-none, fold-suc}
+use borrow.Author.Tests.{eqb-true, eq-eqb}
+use Rattle.counting.specs.Fold.{foldTo, gate, sumTo, joinTo, onlyIf}
+use Rattle.counting.specs.FoldLaws.{fold-ext, fold-none}
 use Rattle.counting.specs.Sums.{sum-zeros, sum-swap, sum-gate, sum-at-le, sum-only, sum-weigh, sum-front, gate-mul, OneHot, one-hot, one-hot-same}
 use Rattle.counting.specs.Tests.{bool-cases, eqb-sym, and-split, never}
 

@@ -18,9 +18,10 @@ use Rattle.input_data.specs.Lengths.{Within, edgesLength, planLength}
 use Rattle.input_data.specs.declared.Limits.{Limits}
 use Rattle.input_data.specs.declared.InputData.{InputData}
 use Rattle.schedule_state.specs.Good.{choices-most}
-use Rattle.mip_flow.specs.declared.Lengths.{Lengths}
+use Rattle.model_buffers.specs.Lengths.{shortValues}
+use Rattle.model_buffers.specs.declared.Lengths.{Lengths}
 use Rattle.edge_values.specs.Values.{valueAt, valuesNumber}
-use Rattle.plans.specs.Model.{ModelInput, scheduleOf, seatsOf, networkOf, planOf, numberWith, modelNumber, shortValues, enterNumber}
+use Rattle.plans.specs.Model.{ModelInput, entriesOf, seatsOf, networkOf, planOf, numberWith, modelNumber, enterNumber}
 use Rattle.plans.specs.Read.{read}
 use Rattle.plans.specs.Seatable.{Seatable, choiceIn}
 use Rattle.plans.specs.CanBeHad.{CanBeHad, PlansSeatable, SamePlans, WithinLimit}
@@ -51,21 +52,21 @@ module _ (l : Limits) (w : Within l) (x : ModelInput) (lens : Lengths) (short : 
       let n = sym (plan-at l x vs c s h i) in
       record { choice = rw n at (r .choice); slot = rw n at (r .slot); one = rw n at (r .one) }
 
-  decoded-seatable : Seatable (x .day) (scheduleOf x) (x .limit) (x .preferences) (planOf l x vs)
+  decoded-seatable : Seatable (x .day) (entriesOf x) (x .limit) (x .preferences) (planOf l x vs)
   decoded-seatable =
       let a = all-passed (networkOf l x) vs v in
       flow-seatable l x g (planOf l x vs) (read (seatsOf l x) vs) (read-flow l x g vs passed) decoded-reads (plan-length l x vs)
       (together-iff l x lens short w e vs (λ i h. passed .whole-values i (omega arith)) .0 (a .used, a .uneven))
 
-had-seatable : (l : Limits) → Within l → (x : ModelInput) (plan : List ℕ) → CanBeHad l x plan → Seatable (x .day) (scheduleOf x) (x .limit) (x .preferences) plan
+had-seatable : (l : Limits) → Within l → (x : ModelInput) (plan : List ℕ) → CanBeHad l x plan → Seatable (x .day) (entriesOf x) (x .limit) (x .preferences) plan
 had-seatable l w x plan h =
     let z = cond-zero (enterNumber l x (h .lengths) (length (h .values)) (h .room)) (valuesNumber (networkOf l x) (h .values)) (h .accepted) in
-    subst (λ p. Seatable (x .day) (scheduleOf x) (x .limit) (x .preferences) p) (h .decodes)
+    subst (λ p. Seatable (x .day) (entriesOf x) (x .limit) (x .preferences) p) (h .decodes)
     (decoded-seatable l w x (h .lengths) (shortValues l (length (h .values)) (h .room)) (z .0) (h .values) (z .1))
 
 -- a plan that seats everybody, as values
 module _ (l : Limits) (w : Within l) (x : ModelInput) (lens : Lengths) (e : modelNumber l x lens ≡ 0) (plan : List ℕ)
-    (ok : Seatable (x .day) (scheduleOf x) (x .limit) (x .preferences) plan) where
+    (ok : Seatable (x .day) (entriesOf x) (x .limit) (x .preferences) plan) where
   abbrev gd : Good l x
   gd = good l x lens false w e
 

@@ -13,21 +13,21 @@ use lib.ListN.{length, getD, length-append, length-map, List·getD-append}
 use lib.Seq.{getD-append-add, getD-at}
 use borrow.Author.Tests.{eqb-false, eq-eqb, ne-eqb, lt-ltb, le-ltb, ltb-true, not-true}
 use Rattle.counting.specs.Fold.{foldTo, gate, sumTo, joinTo}
-use Rattle.counting.specs.Holds.{Holds, holds-sum}
+use Rattle.counting.specs.HoldsLaws.{Holds, holds-sum}
 use Rattle.counting.specs.Sums.{sum-zeros, sum-swap, sum-gate, sum-only, sum-pick, sum-most, zeros-of-sum, count-le}
 use Rattle.counting.specs.Tests.{bool-cases, eq-cases, lt-cases, eqb-sym, and-split, never}
 use Rattle.input_data.specs.Day.{minAt, maxAt}
 use Rattle.input_data.specs.Lengths.{edgesLength}
 use Rattle.input_data.specs.declared.Limits.{Limits}
 use Rattle.scheduling.specs.Schedule.{entryAt}
-use Rattle.slot_lists.specs.Held.{member}
-use Rattle.schedule_state.specs.Blocks.{cell}
+use Rattle.slot_lists.specs.HeldLaws.{member}
+use Rattle.blocks.specs.Blocks.{cell}
 use Rattle.schedule_state.specs.Good.{choices-most, choosers-most}
 use Rattle.mip_flow_static_data.specs.Nodes.{choiceNode}
 use Rattle.mip_flow.specs.Edges.{Seat, seat, isOpen, listedSeat, slotSeats, slotSeatsAt, chooserSeats, openSeats, placeAt, scheduled, seatFrom, seatTo, seatMax, choiceTo, choiceMax}
 use Rattle.mip_flow.specs.Index.{noEdge, seatCell, numberFrom, edgeOf}
 use Rattle.edge_values.specs.Values.{Network, valueAt}
-use Rattle.plans.specs.Model.{ModelInput, sizesOf, scheduleOf, countOf, listOf, offerOf, seatsOf, choicesOf, networkOf}
+use Rattle.plans.specs.Model.{ModelInput, sizesOf, entriesOf, countOf, listOf, offerOf, seatsOf, choicesOf, networkOf}
 use Rattle.plans.specs.Read.{read}
 use Rattle.plans.specs.Good.{Good}
 use Rattle.plans.specs.Pairs.{gate-on, gate-off, gate-nothing, gate-and, pairEq, sum-ext, sum-ext2, sum-split, Pairs, value, pairs-in, pairs-has, pairs-same, value-at, value-off, total, total-join, total-only, total-at}
@@ -122,7 +122,7 @@ frameOf l x g = record {
   choosers = x .day .choosers;
   slots = x .day .slots;
   choices = x .day .choices;
-  entry = entryAt (scheduleOf x);
+  entry = entryAt (entriesOf x);
   least = minAt (x .day);
   most = maxAt (x .day);
   allowed = isOpen (offerOf l x);
@@ -131,7 +131,7 @@ frameOf l x g = record {
 
 -- chooser a may have choice k, which has a slot
 unfoldable pub isSeat : Limits → ModelInput → ℕ → ℕ → Bool
-isSeat l x a k = ltb a (x .day .choosers) && (ltb k (x .day .choices) && (not (eqb (entryAt (scheduleOf x) k) 0) && isOpen (offerOf l x) a k))
+isSeat l x a k = ltb a (x .day .choosers) && (ltb k (x .day .choices) && (not (eqb (entryAt (entriesOf x) k) 0) && isOpen (offerOf l x) a k))
 
 -- row and choice of the edge at place e: the seats' edges, then the choices'
 unfoldable pub rowAt : Limits → ModelInput → ℕ → ℕ
@@ -166,7 +166,7 @@ module _ (l : Limits) (x : ModelInput) (g : Good l x) where
   K = x .day .choices
 
   abbrev E : ℕ → ℕ
-  E = entryAt (scheduleOf x)
+  E = entryAt (entriesOf x)
 
   abbrev may : ℕ → ℕ → Bool
   may = isOpen (offerOf l x)
@@ -175,7 +175,7 @@ module _ (l : Limits) (x : ModelInput) (g : Good l x) where
 
   choices-total : (f : ℕ → ℕ) → total f (choicesOf x) ≡ sumTo K (λ k. gate (not (eqb (E k) 0)) (f k))
   unfolding choicesOf scheduled
-  choices-total f = total-join f K (placeAt (scheduleOf x)) ∙ sum-ext K (λ k. total f (placeAt (scheduleOf x) k)) (λ k. gate (not (eqb (E k) 0)) (f k)) (λ k h. total-only f (not (eqb (E k) 0)) k)
+  choices-total f = total-join f K (placeAt (entriesOf x)) ∙ sum-ext K (λ k. total f (placeAt (entriesOf x) k)) (λ k. gate (not (eqb (E k) 0)) (f k)) (λ k h. total-only f (not (eqb (E k) 0)) k)
 
   -- each scheduled choice is listed once, and nothing else
   pub choices-hold : Holds (length (choicesOf x)) (λ i. getD (choicesOf x) i 0) (λ k. ltb k K && not (eqb (E k) 0))
@@ -187,11 +187,6 @@ module _ (l : Limits) (x : ModelInput) (g : Good l x) where
         ∙ sum-pick K (λ k. gate (not (eqb (E k) 0)) 1) b
         ∙ sym (gate-and (ltb b K) (not (eqb (E b) 0)) 1);
   }
-
-  -- .. upward
-  pub choices-upward : (i j : ℕ) → i < j → j < length (choicesOf x) → getD (choicesOf x) i 0 < getD (choicesOf x) j 0
-  unfolding choicesOf scheduled
-  choices-upward i j l h = places-upward (scheduleOf x) K i j l h
 
   pub choices-few : length (choicesOf x) ≤ K
   choices-few = omega (arith, total-one (choicesOf x), choices-total (λ k. 1), count-le K (λ k. not (eqb (E k) 0)))
@@ -426,7 +421,7 @@ module _ (l : Limits) (x : ModelInput) (g : Good l x) where
   to-is : (i : ℕ) → i < edgeCount l x → getD (networkOf l x .to) i 0 ≡ toOf (frameOf l x g) (rowAt l x i) (itemAt l x i)
   unfolding networkOf toOf chooserAt choiceAt
   to-is i h =
-      maps-at (seatTo (sizesOf l (x .day))) (choiceTo (sizesOf l (x .day)) (scheduleOf x)) (seatsOf l x) (choicesOf x) noSeat 0 0 i h
+      maps-at (seatTo (sizesOf l (x .day))) (choiceTo (sizesOf l (x .day)) (entriesOf x)) (seatsOf l x) (choicesOf x) noSeat 0 0 i h
       ∙ lt-cases i (length (seatsOf l x))
       (λ b t. rw (t, row-seat i b, item-seat i b, lt-ltb (chooserAt (seatsOf l x) i) C (at-seat i b)))
       (λ b t. rw (t, row-choice i b, item-choice i b, le-ltb C C (omega arith)))

@@ -13,7 +13,7 @@ use Rattle.input_data.specs.Day.{minAt, maxAt, constraintAt}
 use Rattle.input_data.specs.declared.InputData.{InputData}
 use Rattle.scheduling.specs.Schedule.{entryAt}
 use Rattle.schedule_state.specs.State.{blockedAt}
-use Rattle.edge_groups.specs.Names.{startOf}
+use Rattle.edge_groups.specs.Names.{memberStart}
 
 -- the choice that a plan gives chooser c in slot s
 abbrev pub choiceIn : InputData → List ℕ → ℕ → ℕ → ℕ
@@ -36,7 +36,7 @@ pub record Allowed (d : InputData) (sch : List ℕ) (limit : ℕ) (preferences :
 
 -- member i of dependent group g
 abbrev pub memberOf : InputData → ℕ → ℕ → ℕ
-memberOf d g i = getD (d .members) (startOf (d .lengths) g + i) 0
+memberOf d g i = getD (d .members) (memberStart (d .lengths) g + i) 0
 
 pub record Seatable (d : InputData) (sch : List ℕ) (limit : ℕ) (preferences plan : List ℕ) : Type 0 where
   pub long : length plan ≡ d .choosers * d .slots

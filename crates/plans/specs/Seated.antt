@@ -8,7 +8,8 @@ use native.Mathlib.Omega.{arith}
 use lib.Dec.{eqb, ltb, leb}
 use lib.ListN.{length, getD}
 use borrow.Author.Tests.{eq-eqb, ne-eqb, lt-ltb, le-ltb, ltb-true, leb-true, le-leb, not-true}
-use Rattle.counting.specs.Fold.{gate, sumTo, fold-suc}
+use Rattle.counting.specs.Fold.{gate, sumTo}
+use Rattle.counting.specs.FoldLaws.{fold-suc}
 use Rattle.counting.specs.Sums.{sum-zeros, sum-add, sum-swap, sum-only, sum-const, sum-mono, one-hot-same}
 use Rattle.counting.specs.Tests.{bool-cases, eq-cases, lt-cases, eqb-sym, and-split}
 use Rattle.constraint.specs.Cases.{targetOperand}
@@ -24,11 +25,11 @@ use Rattle.input_data.specs.Operands.{leftCase, rightCase}
 use Rattle.input_data.specs.declared.Limits.{Limits}
 use Rattle.input_data.specs.declared.InputData.{InputData}
 use Rattle.scheduling.specs.Schedule.{entryAt}
-use Rattle.schedule_state.specs.Blocks.{cell}
+use Rattle.blocks.specs.Blocks.{cell}
 use Rattle.schedule_state.specs.State.{blockedAt}
 use Rattle.mip_flow.specs.Edges.{preferenceOf, isOpen}
-use Rattle.edge_groups.specs.Names.{startOf}
-use Rattle.plans.specs.Model.{ModelInput, scheduleOf, offerOf}
+use Rattle.edge_groups.specs.Names.{memberStart}
+use Rattle.plans.specs.Model.{ModelInput, entriesOf, offerOf}
 use Rattle.plans.specs.Read.{ReadTogether}
 use Rattle.plans.specs.Seatable.{choiceIn, sits, seatsIn, memberOf, Seatable}
 use Rattle.plans.specs.Good.{Good}
@@ -56,8 +57,8 @@ module _ {l : Limits} {d : InputData} (a : Accepted l d) where
 
   -- a group's members are among those that are counted
   pub member-choice : (g : ℕ) → g < d .groups → (i : ℕ) → i < entryAt (d .lengths) g → memberOf d g i < d .choices
-  unfolding startOf memberCount
-  member-choice g h i b = a .member (startOf (d .lengths) g + i) (omega (
+  unfolding memberStart memberCount
+  member-choice g h i b = a .member (memberStart (d .lengths) g + i) (omega (
     arith,
     fold-suc _+_ 0 g (entryAt (d .lengths)),
     sum-ext (suc g) (entryAt (d .lengths)) (lengthIn (d .groups) (d .lengths)) (λ k c. sym (gate-on (entryAt (d .lengths) k) (lt-ltb k (d .groups) (omega arith)))),
@@ -75,13 +76,13 @@ module _ (l : Limits) (x : ModelInput) (g : Good l x) (plan : List ℕ) where
   K = x .day .choices
 
   abbrev E : ℕ → ℕ
-  E = entryAt (scheduleOf x)
+  E = entryAt (entriesOf x)
 
   abbrev P : ℕ → ℕ → ℕ
   P = choiceIn (x .day) plan
 
   abbrev sit : ℕ → ℕ → Bool
-  sit = sits (x .day) (scheduleOf x) plan
+  sit = sits (x .day) (entriesOf x) plan
 
   -- ---- what an open seat is
 
@@ -93,11 +94,11 @@ module _ (l : Limits) (x : ModelInput) (g : Good l x) (plan : List ℕ) where
   unfolding isOpen preferenceOf
   open-preference c k e = leb-true _ _ (open-tests c k e .0)
 
-  open-unblocked : (c k : ℕ) → c < C → k < K → isOpen (offerOf l x) c k ≡ true → blockedAt (x .day) (scheduleOf x) c k ≡ false
+  open-unblocked : (c k : ℕ) → c < C → k < K → isOpen (offerOf l x) c k ≡ true → blockedAt (x .day) (entriesOf x) c k ≡ false
   unfolding isOpen preferenceOf
   open-unblocked c k h i e = sym (g .blocks c k h i) ∙ not-true _ (open-tests c k e .1)
 
-  open-is : (c k : ℕ) → c < C → k < K → getD (x .preferences) (c * K + k) 0 ≤ x .limit → blockedAt (x .day) (scheduleOf x) c k ≡ false → isOpen (offerOf l x) c k ≡ true
+  open-is : (c k : ℕ) → c < C → k < K → getD (x .preferences) (c * K + k) 0 ≤ x .limit → blockedAt (x .day) (entriesOf x) c k ≡ false → isOpen (offerOf l x) c k ≡ true
   unfolding isOpen preferenceOf
   open-is c k h i p b = rw (le-leb _ _ p, g .blocks c k h i, b)
 
@@ -118,7 +119,7 @@ module _ (l : Limits) (x : ModelInput) (g : Good l x) (plan : List ℕ) where
 
   module _ (X : ℕ → ℕ → ℕ) (ok : ReadFlow l x X) (reads : (c s : ℕ) → c < C → s < S → Reads X c s) where
     -- a value says who sits where
-    pub seat-value : (c k : ℕ) → c < C → k < K → E k ≢ 0 → X c k ≡ gate (sits (x .day) (scheduleOf x) plan c k) 1
+    pub seat-value : (c k : ℕ) → c < C → k < K → E k ≢ 0 → X c k ≡ gate (sits (x .day) (entriesOf x) plan c k) 1
     seat-value c k hc hk d =
         let s = E k - 1 in
         let hs : E k - 1 < S = inside k hk d in
@@ -131,14 +132,14 @@ module _ (l : Limits) (x : ModelInput) (g : Good l x) (plan : List ℕ) where
         (λ q. omega (arith, r .one, gate-on (X c (P c (E k - 1))) (eq-eqb (E (P c (E k - 1))) (suc (E k - 1)) (r .slot))))
         (λ q. z (sym (gate-on (X c k) (eq-eqb (E k) (suc (E k - 1)) (sym n))) ∙ q)))))))
 
-    seats-sum : (k : ℕ) → k < K → E k ≢ 0 → seatsIn (x .day) (scheduleOf x) plan k ≡ sumTo C (λ c. X c k)
+    seats-sum : (k : ℕ) → k < K → E k ≢ 0 → seatsIn (x .day) (entriesOf x) plan k ≡ sumTo C (λ c. X c k)
     seats-sum k hk d = sym (sum-ext C (λ c. X c k) (λ c. gate (sit c k) 1) (λ c h. seat-value c k h hk d))
 
     -- so what is equal in the values is equal in the plan
     sits-same : (a b i j : ℕ) → a < C → b < C → i < K → j < K → E i ≢ 0 → E j ≢ 0 → X a i ≡ X b j → sit a i ≡ sit b j
     sits-same a b i j ha hb hi hj di dj e = gate-same (sit a i) (sit b j) (sym (seat-value a i ha hi di) ∙ e ∙ seat-value b j hb hj dj)
 
-    pub flow-seatable : length plan ≡ C * S → ReadTogether (x .day) (scheduleOf x) X → Seatable (x .day) (scheduleOf x) (x .limit) (x .preferences) plan
+    pub flow-seatable : length plan ≡ C * S → ReadTogether (x .day) (entriesOf x) X → Seatable (x .day) (entriesOf x) (x .limit) (x .preferences) plan
     flow-seatable long tog =
         let day = g .ready .day in
         record {
@@ -156,7 +157,7 @@ module _ (l : Limits) (x : ModelInput) (g : Good l x) (plan : List ℕ) where
         }
 
     -- .. and the other way round
-    pub seated-together : Seatable (x .day) (scheduleOf x) (x .limit) (x .preferences) plan → ReadTogether (x .day) (scheduleOf x) X
+    pub seated-together : Seatable (x .day) (entriesOf x) (x .limit) (x .preferences) plan → ReadTogether (x .day) (entriesOf x) X
     seated-together ok =
         let day = g .ready .day in
         record {
@@ -170,13 +171,13 @@ module _ (l : Limits) (x : ModelInput) (g : Good l x) (plan : List ℕ) where
   -- ---- a plan gives values
 
   abbrev count : ℕ → ℕ
-  count = seatsIn (x .day) (scheduleOf x) plan
+  count = seatsIn (x .day) (entriesOf x) plan
 
   -- 1 where a chooser sits, and for a choice how many sit there above its min
   unfoldable pub table : ℕ → ℕ → ℕ
-  table a k = gate (present (frameOf l x g) a k) (cond (ltb a C) (gate (sits (x .day) (scheduleOf x) plan a k) 1) (seatsIn (x .day) (scheduleOf x) plan k - minAt (x .day) k))
+  table a k = gate (present (frameOf l x g) a k) (cond (ltb a C) (gate (sits (x .day) (entriesOf x) plan a k) 1) (seatsIn (x .day) (entriesOf x) plan k - minAt (x .day) k))
 
-  module _ (ok : Seatable (x .day) (scheduleOf x) (x .limit) (x .preferences) plan) where
+  module _ (ok : Seatable (x .day) (entriesOf x) (x .limit) (x .preferences) plan) where
     table-seat : (c k : ℕ) → c < C → k < K → E k ≢ 0 → table c k ≡ gate (sit c k) 1
     unfolding table
     table-seat c k hc hk d = rw (lt-ltb c C hc) (eq-cases (P c (E k - 1)) k

@@ -11,7 +11,7 @@ use lib.Signed.{mag, nonNeg}
 use lib.ListN.{length, getD}
 use borrow.Author.Tests.{eqb-true, eqb-false, eq-eqb, ne-eqb, ltb-true, lt-ltb, not-true, not-false}
 use Rattle.counting.specs.Fold.{foldTo, gate, onlyIf, joinTo}
-use Rattle.counting.specs.Holds.{holds-in, holds-has}
+use Rattle.counting.specs.HoldsLaws.{holds-in, holds-has}
 use Rattle.counting.specs.Signed.{eqZ-same, same-eqZ}
 use Rattle.counting.specs.Tests.{never, bool-cases, eq-cases, and-split, or-split, none-each, each-none}
 use Rattle.constraint.specs.Cases.{targetOperand}
@@ -22,21 +22,22 @@ use Rattle.input_data.specs.Lengths.{Within}
 use Rattle.input_data.specs.declared.Limits.{Limits}
 use Rattle.input_data.specs.declared.InputData.{InputData}
 use Rattle.scheduling.specs.Schedule.{entryAt}
-use Rattle.slot_lists.specs.Held.{Held, held, misheld}
+use Rattle.slot_lists.specs.HeldLaws.{Held, held}
+use Rattle.slot_lists.specs.Held.{misheld}
 use Rattle.slot_lists.specs.Lists.{listed}
 use Rattle.slot_lists.specs.Sums.{one, weighed}
 use Rattle.schedule_state.specs.Good.{kept-fits}
-use Rattle.schedule_state.specs.Blocks.{blockedBy}
+use Rattle.blocks.specs.Blocks.{blockedBy}
 use Rattle.schedule_state.specs.State.{miscounted, misblocked}
 use Rattle.schedule_state.specs.Numbers.{StateAccepted}
 use Rattle.input_data.specs.declared.Sizes.{Sizes}
 use Rattle.mip_flow.specs.Index.{edgeOf}
-use Rattle.mip_flow.specs.declared.Lengths.{Lengths}
+use Rattle.model_buffers.specs.declared.Lengths.{Lengths}
 use Rattle.edge_groups.specs.Groups.{each, allThere, present, groupsOf, blockedOf}
-use Rattle.edge_groups.specs.Names.{pairNames, slotNames, slotNamesAt, sameChoicesNames, constraintNames, constraintNamesAt, constraintsNames, memberNameAt, chooserNames, chooserNamesAt, groupNames, groupNamesAt, startOf, dependentNames, names}
+use Rattle.edge_groups.specs.Names.{pairNames, slotNames, slotNamesAt, sameChoicesNames, constraintNames, constraintNamesAt, constraintsNames, memberNameAt, chooserNames, chooserNamesAt, groupNames, groupNamesAt, memberStart, dependentNames, names}
 use Rattle.edge_values.specs.Values.{valueAt, usedAt, someUsed, differ, differsAt, isUneven, unevenAt, someUneven}
 use Rattle.plans.specs.Good.{model-accepted}
-use Rattle.plans.specs.Model.{ModelInput, sizesOf, scheduleOf, seatsOf, namesOf, networkOf, besideModel, numberWith}
+use Rattle.plans.specs.Model.{ModelInput, sizesOf, entriesOf, seatsOf, namesOf, networkOf, besideModel, numberWith}
 use Rattle.plans.specs.Read.{read, ReadTogether}
 
 -- ---- what holds of every element of a list
@@ -275,13 +276,13 @@ module _ (R : ℕ → ℕ) (edge : ℕ → ℕ → ℕ) (l : Limits) (d : InputD
       let g = all-join (Same R) (d .groups) (groupNamesAt edge (sizesOf l d) sch (d .lengths) (d .members)) in (
         λ q. let s = a .0 q in record {
           same = λ j b. constraint-iff (constraintAt (d .assignment) j) .0 (p .0 (s .0) j b);
-          together = λ i b e c m. chooser-iff R edge sch (d .members) (startOf (d .lengths) i) (entryAt (d .lengths) i) c .0
-              (group-iff R edge (sizesOf l d) sch (d .members) (startOf (d .lengths) i) (entryAt (d .lengths) i) .0 (g .0 (s .1) i b) e c m);
+          together = λ i b e c m. chooser-iff R edge sch (d .members) (memberStart (d .lengths) i) (entryAt (d .lengths) i) c .0
+              (group-iff R edge (sizesOf l d) sch (d .members) (memberStart (d .lengths) i) (entryAt (d .lengths) i) .0 (g .0 (s .1) i b) e c m);
         },
         λ t. a .1 (
           p .1 (λ j b. constraint-iff (constraintAt (d .assignment) j) .1 (t .same j b)),
-          g .1 (λ i b. group-iff R edge (sizesOf l d) sch (d .members) (startOf (d .lengths) i) (entryAt (d .lengths) i) .1
-              (λ e c m. chooser-iff R edge sch (d .members) (startOf (d .lengths) i) (entryAt (d .lengths) i) c .1 (t .together i b e c m))),
+          g .1 (λ i b. group-iff R edge (sizesOf l d) sch (d .members) (memberStart (d .lengths) i) (entryAt (d .lengths) i) .1
+              (λ e c m. chooser-iff R edge sch (d .members) (memberStart (d .lengths) i) (entryAt (d .lengths) i) c .1 (t .together i b e c m))),
         ),
       )
 
@@ -291,24 +292,24 @@ module _ (l : Limits) (x : ModelInput) (lens : Lengths) (short : Bool) (w : With
   state : StateAccepted l (x .day) (x .state) (besideModel l x lens short) false (x .lists)
   state = model-accepted l x lens short w e
 
-  lists-held : Held (l .choices) (entryAt (scheduleOf x)) (x .day .choices) (x .day .slots) (x .lists)
+  lists-held : Held (l .choices) (entryAt (entriesOf x)) (x .day .choices) (x .day .slots) (x .lists)
   lists-held =
-      let a : ((misheld (l .choices) (entryAt (scheduleOf x)) (x .day .choices) (x .day .slots) (x .lists) || miscounted (x .day) (scheduleOf x) (x .state .covered)) ≡ false)
-      × (misblocked (blockedBy (x .day .assignment) (scheduleOf x)) (x .day .choosers) (x .day .choices) (x .state .blocks) ≡ false) = or-split (state .consistent) in
-      let b : (misheld (l .choices) (entryAt (scheduleOf x)) (x .day .choices) (x .day .slots) (x .lists) ≡ false) × (miscounted (x .day) (scheduleOf x) (x .state .covered) ≡ false) = or-split (a .0) in
-      held (l .choices) (entryAt (scheduleOf x)) (x .day .choices) (x .day .slots) (x .lists) (b .0)
+      let a : ((misheld (l .choices) (entryAt (entriesOf x)) (x .day .choices) (x .day .slots) (x .lists) || miscounted (x .day) (entriesOf x) (x .state .covered)) ≡ false)
+      × (misblocked (blockedBy (x .day .assignment) (entriesOf x)) (x .day .choosers) (x .day .choices) (x .state .blocks) ≡ false) = or-split (state .consistent) in
+      let b : (misheld (l .choices) (entryAt (entriesOf x)) (x .day .choices) (x .day .slots) (x .lists) ≡ false) × (miscounted (x .day) (entriesOf x) (x .state .covered) ≡ false) = or-split (a .0) in
+      held (l .choices) (entryAt (entriesOf x)) (x .day .choices) (x .day .slots) (x .lists) (b .0)
 
 pub together-iff : (l : Limits) (x : ModelInput) (lens : Lengths) (short : Bool) → Within l → numberWith l x lens short ≡ 0 → (vs : List ℤ)
     → ((e : ℕ) → e < length (seatsOf l x) → nonNeg (valueAt vs e) ≡ true)
     → ((someUsed (length (networkOf l x .blocked)) (networkOf l x .blocked) vs ≡ false) × (someUneven (networkOf l x .groups) vs ≡ false))
-    ↔ ReadTogether (x .day) (scheduleOf x) (read (seatsOf l x) vs)
+    ↔ ReadTogether (x .day) (entriesOf x) (read (seatsOf l x) vs)
 unfolding networkOf namesOf read
 together-iff l x lens short w e vs signs =
     let n = length (seatsOf l x) in
     let u = unused-iff vs (blockedOf n (namesOf l x)) in
     let v = evens-iff vs (groupsOf n (namesOf l x)) in
     let a = lists-iff n vs signs (namesOf l x) in
-    let b = names-iff (readNumber n vs) (edgeOf (seatsOf l x)) l (x .day) (scheduleOf x) (x .lists) (lists-held l x lens short w e)
+    let b = names-iff (readNumber n vs) (edgeOf (seatsOf l x)) l (x .day) (entriesOf x) (x .lists) (lists-held l x lens short w e)
     (kept-fits (state l x lens short w e .ready) (x .state .schedule) (state l x lens short w e .inside)) in (
       λ t. b .0 (a .0 (u .0 (t .0), v .0 (t .1))),
       λ t. let q = a .1 (b .1 t) in (u .1 (q .0), v .1 (q .1)),

@@ -1,109 +1,44 @@
-// Prints the rows of the sample day that the library can answer so far, each computed.
-use constraint::Constraint;
-use lines::say;
-use lines::say_constraint;
-use lines::say_number;
-use lines::say_ordering;
-use lines::say_score;
-use score::BestScore;
-use score::Score;
+// The sample day of document 01: each row is computed by the library's calls, on lent bytes. What it
+// prints is compared with the file stdout.
+use layouts::day_of;
+use layouts::schedule_of;
 
+mod layouts;
 mod lines;
+mod models;
+mod scores;
+mod searches;
+mod states;
 
-// The three scores, each of which is less than the next and the last less than the first.
-fn first() -> Score {
-    Score {
-        major: 1.0,
-        minor: 3.0,
-    }
+// Its state, its model, and values for the model's edges.
+fn rows_of_day(day: &[u8; 2044]) {
+    let first = schedule_of(0, 0, 1);
+    states::rows_of_build(b"choices 0, 1, 2 in slots 0, 0, 1: ", day, &first);
+    models::rows_of_model(b"model at limit 1: ", day, false);
+    models::rows_of_values(day);
+    models::row_of_edge_six(day, 3);
+    models::row_of_edge_six(day, 0);
 }
 
-fn second() -> Score {
-    Score {
-        major: 2.0,
-        minor: 1.0,
-    }
-}
-
-fn third() -> Score {
-    Score {
-        major: score::greedy_major(),
-        minor: 2.0,
-    }
-}
-
-fn row_of_zeros() {
-    let negative = Score {
-        major: 1.0,
-        minor: -0.0,
-    };
-    let positive = Score {
-        major: 1.0,
-        minor: 0.0,
-    };
-    say(b"minor -0.0 before +0.0 with equal majors: ");
-    say_ordering(negative.cmp(positive));
-    say(b"\n");
-}
-
-fn row_of_two(left: Score, right: Score) {
-    say_score(left);
-    say(b" < ");
-    say_score(right);
-    say(b": ");
-    say_ordering(left.cmp(right));
-    say(b"\n");
-}
-
-// In a cycle the best hangs on the order: the first is kept until a later one is less.
-fn row_of_best() {
-    let one = first();
-    let two = second();
-    let three = third();
-    say(b"best of ");
-    say_score(one);
-    say(b", ");
-    say_score(two);
-    say(b", ");
-    say_score(three);
-    say(b": ");
-    let floats = [
-        one.major,
-        one.minor,
-        two.major,
-        two.minor,
-        three.major,
-        three.minor,
-    ];
-    let best = score::best(&floats, 3).best;
-    match best {
-        BestScore::None => say(b"none"),
-        BestScore::At(ranked) => {
-            say(b"position ");
-            say_number(ranked.position);
-            say(b", score ");
-            say_score(ranked.score);
-        }
-    }
-    say(b"\n");
-}
-
-fn rows_of_negation() {
-    let limit = Constraint::of(6, 0, 4, 2, 2, -2);
-    say(b"size limit Leq: ");
-    say_constraint(limit);
-    let answer = limit.negation();
-    say(b"its negation, number ");
-    say_number(answer.number as usize);
-    say(b": ");
-    say_constraint(answer.constraint);
+// The same with a constraint, with another schedule, and with input that is refused.
+fn rows_of_change(day: &[u8; 2044]) {
+    let tied = day_of(2, 2, 1);
+    let moved = schedule_of(1, 0, 1);
+    models::rows_of_model(b"with ChoosersHaveSameChoices of 0 and 1: ", &tied, true);
+    states::rows_of_update(b"choice 0 moved to slot 1: ", day, &moved);
+    states::rows_of_build(b"that schedule afresh: ", day, &moved);
+    states::row_of_refusal(day);
+    states::rows_of_limits();
 }
 
 fn main() {
-    row_of_zeros();
-    row_of_two(first(), second());
-    row_of_two(second(), third());
-    row_of_two(third(), first());
-    row_of_best();
-    rows_of_negation();
+    let day = day_of(2, 2, 0);
+    rows_of_day(&day);
+    rows_of_change(&day);
+    searches::row_of_search(0);
+    searches::row_of_search(5);
+    scores::row_of_zeros();
+    scores::rows_of_order();
+    scores::row_of_best();
+    scores::rows_of_negation();
 }

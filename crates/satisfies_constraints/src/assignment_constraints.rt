@@ -7,8 +7,9 @@ ghost use Rattle.counting.specs.Fold.{gate};
 ghost use Rattle.counting.specs.Lent.{old};
 ghost use Rattle.input_data.specs.Bytes.{dayOf};
 ghost use Rattle.assignment.specs.Plan.{isInChoice};
-ghost use Rattle.satisfies_constraints.specs.Constraints.{timesIn, sameChoosers, sameChoices, meetsPlan, assignmentIn};
-ghost use Rattle.satisfies_constraints.specs.Laws.{InPlan, OperandsIn, PlanRead};
+ghost use Rattle.satisfies_constraints.specs.Constraints.{timesIn, sameChoosers, sameChoices, assignmentIn};
+ghost use Rattle.satisfies_constraints.specs.ByNumber.{meetsPlan, OperandsIn};
+ghost use Rattle.satisfies_constraints.specs.Laws.{InPlan, PlanRead};
 
 fn once(seated: bool) -> u32
     ensures { λ r. ⌜ (r ≡ gate seated 1) × (r ≤ 1) ⌝ }
@@ -116,7 +117,7 @@ pub fn assignment_met(
     plan: &[u8],
     day: &[u8],
 ) -> bool
-    requires { ⌜ PlanRead choosers slots (now entries) (now plan) (now day) ⌝ }
+    requires { ⌜ PlanRead choosers choices slots (now entries) (now plan) (now day) ⌝ }
     ensures { λ r. ⌜ r ≡ assignmentIn choosers choices slots (old entries) (old plan) (dayOf (old day) .assignment) ⌝ }
 {
     let count = input_data::assignment_count(day);

@@ -7,11 +7,11 @@ ghost use Rattle.counting.specs.Fold.{gate, countTo};
 ghost use Rattle.counting.specs.Holds.{isOf};
 ghost use Rattle.counting.specs.Lent.{old};
 ghost use Rattle.input_data.specs.Bytes.{dayOf};
-ghost use Rattle.input_data.specs.Numbered.{WithExtra};
 ghost use Rattle.scheduling.specs.Schedule.{entryAt};
 ghost use lib.Dec.{eqb};
-ghost use Rattle.satisfies_constraints.specs.Constraints.{apart, hasOffset, hasSize, sizeOf, meetsSchedule, schedulingIn};
-ghost use Rattle.satisfies_constraints.specs.Laws.{SlotLeft, ListRead};
+ghost use Rattle.satisfies_constraints.specs.Constraints.{apart, hasOffset, sizeOf, schedulingIn};
+ghost use Rattle.satisfies_constraints.specs.ByNumber.{sizeByNumber, meetsSchedule, SlotLeft};
+ghost use Rattle.satisfies_constraints.specs.Laws.{ScheduleRead};
 
 // The entry of a choice, or none.
 pub fn entry_of(entries: &[u8; 32], k: usize) -> u8
@@ -57,7 +57,7 @@ fn has_offset(left: u8, right: u8, offset: i32) -> bool
 
 // A count against a limit, by the operator's number.
 fn has_size(op: i32, count: usize, limit: usize) -> bool
-    ensures { λ r. ⌜ r ≡ hasSize op count limit ⌝ }
+    ensures { λ r. ⌜ r ≡ sizeByNumber op count limit ⌝ }
 {
     match op {
         1 => count == limit,
@@ -135,7 +135,7 @@ fn meets_schedule(
 // Whether a schedule meets every scheduling constraint of the day. The numbers are read where they lie:
 // those of accepted constraints are taken as they stand.
 pub fn scheduling_met(choices: usize, entries: &[u8; 32], day: &[u8]) -> bool
-    requires { ⌜ (choices ≤ 32) × (length (now entries) ≡ 32) × ListRead WithExtra (now day) (dayOf (now day) .scheduling) ⌝ }
+    requires { ⌜ ScheduleRead choices (now entries) (now day) ⌝ }
     ensures { λ r. ⌜ r ≡ schedulingIn choices (old entries) (dayOf (old day) .scheduling) ⌝ }
 {
     let count = input_data::scheduling_count(day);

@@ -26,7 +26,7 @@ use Rattle.schedule_state.specs.declared.listing.SlotListAnswer.{SlotLis
 
 -- what these calls test beside the day: the length of the slot lists, and a slot that they are asked about
 abbrev pub besideLists : Limits → ℕ → Bool → Beside
-besideLists l size asked = record { lengths = ltb size (listsLength l); preferences = false; levels = false; costs = false; asked = asked }
+besideLists l size asked = record { «bad_lengths» = ltb size (listsLength l); «bad_preferences» = false; «bad_levels» = false; «bad_costs» = false; «bad_asked» = asked }
 
 -- ---- a fresh build
 
@@ -75,19 +75,19 @@ slotListIn l d st slot bytes = take (slotListLength d st slot) (drop (l .choices
 
 -- ---- answers
 
-abbrev pub answer : ℕ → AssignmentScheduleState → StateAnswer
-answer n st = record { number = n; state = st }
+abbrev pub stateAnswer : ℕ → AssignmentScheduleState → StateAnswer
+stateAnswer n st = record { number = n; state = st }
 
-abbrev pub refused : ℕ → StateAnswer
-refused n = answer n zeroState
+abbrev pub stateRefused : ℕ → StateAnswer
+stateRefused n = stateAnswer n zeroState
 
 -- the number, and the state or zeros
-abbrev pub answerOf : ℕ → AssignmentScheduleState → StateAnswer
-answerOf n st = answer n (cond (eqb n 0) st zeroState)
+abbrev pub stateAnswerOf : ℕ → AssignmentScheduleState → StateAnswer
+stateAnswerOf n st = stateAnswer n (cond (eqb n 0) st zeroState)
 
 -- what a call leaves that gives number n: the answer, and in the lent buffer what it makes, or what was there
 pub record Leaves (n : ℕ) (st : AssignmentScheduleState) (made before after : List ℕ) (r : StateAnswer) : Type 0 where
-  pub gives : r ≡ answerOf n st
+  pub gives : r ≡ stateAnswerOf n st
   pub leaves : after ≡ cond (eqb n 0) made before
 
 -- ---- the calls on bytes
@@ -98,7 +98,7 @@ namesOutside d sch = not (notSchedule sch) && outside d (scheduleOf sch)
 
 -- a state whose covered counts are given, and its answer
 abbrev pub madeOf : InputData → List ℕ → List ℕ → StateAnswer
-madeOf d sch covered = answer 0 (record { schedule = record { entries = sch }; covered = covered; blocks = tableTo 2048 (blockedCell d sch) })
+madeOf d sch covered = stateAnswer 0 (record { schedule = record { entries = sch }; covered = covered; blocks = tableTo 2048 (blockedCell d sch) })
 
 -- what the calls on bytes give and leave, each as one promise
 abbrev pub buildLent : Limits → List ℕ → List ℕ → ℕ → ℕ

@@ -16,17 +16,22 @@ use Rattle.input_data.specs.declared.Limits.{Limits}
 use Rattle.input_data.specs.declared.InputData.{InputData}
 use Rattle.input_data.specs.declared.checks.Beside.{Beside}
 use Rattle.scheduling.specs.Handed.{outside, keptOf}
-use Rattle.scheduling.specs.Schedule.{entryAt, kept-at, entries-fit}
+use Rattle.scheduling.specs.HandedLaws.{kept-inside}
+use Rattle.scheduling.specs.Schedule.{entryAt}
 use Rattle.scheduling.specs.declared.Scheduling.{Scheduling}
-use Rattle.counting.specs.Fold.{gate, anyTo, fold-ext}
+use Rattle.counting.specs.Fold.{gate, anyTo}
+use Rattle.counting.specs.FoldLaws.{fold-ext}
 use Rattle.counting.specs.Tests.{none-each, each-none, each-below}
 use Rattle.slot_lists.specs.Held.{misheld}
 use Rattle.slot_lists.specs.Marks.{Looks}
-use Rattle.slot_lists.specs.Sums.{Weighs, Sums, SlotSums, one, inSlot, weightAt, sums-table}
-use Rattle.slot_lists.specs.Walk.{Carries, Carried}
-use Rattle.schedule_state.specs.Blocks.{Blocking, Blocks, blockedBy, blocksAt, cell, cell-in}
-use Rattle.schedule_state.specs.Bytes.{IsState, blockIn, block-in, stateIn}
-use Rattle.schedule_state.specs.Calls.{answer, madeOf, stateNumber}
+use Rattle.slot_lists.specs.SumsLaws.{Weighs, Sums, SlotSums, sums-table}
+use Rattle.slot_lists.specs.Sums.{one, inSlot, weightAt}
+use Rattle.slot_lists.specs.WalkLaws.{Carries, ListsCarried}
+use Rattle.blocks.specs.BlocksLaws.{Blocking, Blocks, cell-in}
+use Rattle.blocks.specs.Blocks.{blockedBy, blocksAt, cell}
+use Rattle.schedule_state.specs.Bytes.{IsState, blockIn, stateIn}
+use Rattle.schedule_state.specs.BytesLaws.{block-in}
+use Rattle.schedule_state.specs.Calls.{stateAnswer, madeOf, stateNumber}
 use Rattle.schedule_state.specs.State.{stateOf, blockedAt, coveredAt, inconsistent, miscounted, miscountedIn, miscountedAt, misblocked, misblockedIn, misblockedRow, misblockedAt, unlike, unlikeAt, sumsOf, cellsOf}
 use Rattle.schedule_state.specs.declared.AssignmentScheduleState.{AssignmentScheduleState}
 
@@ -39,8 +44,8 @@ pub record Ready (l : Limits) (d : InputData) (size : ℕ) : Type 0 where
 -- what a call tests beside the day says of the lengths of the state and of the slot lists
 pub record Handed (l : Limits) (b : Beside) (st : List ℕ) (size : ℕ) : Type 0 where
   pub within : Within l
-  pub state : b .lengths ≡ false → IsState st
-  pub room : b .lengths ≡ false → listsLength l ≤ size
+  pub state : b .«bad_lengths» ≡ false → IsState st
+  pub room : b .«bad_lengths» ≡ false → listsLength l ≤ size
 
 -- the number of a call that is handed a state; where it is 0 also the sums of the state's schedule
 pub record Found (l : Limits) (d : InputData) (st : AssignmentScheduleState) (b : Beside) (also : Bool) (bytes lens covered : List ℕ) (n : ℕ) : Type 0 where
@@ -93,7 +98,7 @@ module _ {l : Limits} {d : InputData} {size : ℕ} (r : Ready l d size) where
 
   module _ (sch : Scheduling) (inside : outside d sch ≡ false) where
     pub kept-fits : (k : ℕ) → k < d .choices → entryAt (keptOf d sch) k ≤ d .slots
-    kept-fits k h = rw (kept-at (d .choices) (sch .entries) k h choices-most) (entries-fit (d .choices) (d .slots) (sch .entries) choices-most inside k h)
+    kept-fits = kept-inside d sch choices-most inside
 
     pub kept-names : Names d (keptOf d sch)
     kept-names = record { fits = kept-fits }
@@ -200,5 +205,5 @@ carries h p = record {
 }
 
 -- what the code puts together is the state of the next schedule
-pub made-state : {stride : ℕ} (d : InputData) {last next : List ℕ} {bytes bytes′ c : List ℕ} → Carried stride (d .choices) last next (d .mins) bytes bytes′ c → madeOf d next c ≡ answer 0 (stateOf d next)
+pub made-state : {stride : ℕ} (d : InputData) {last next : List ℕ} {bytes bytes′ a c : List ℕ} → ListsCarried stride (d .choices) last next (d .mins) bytes bytes′ a c → madeOf d next c ≡ stateAnswer 0 (stateOf d next)
 made-state d {next = next} {c = c} p = rw (sums-table (entryAt (d .mins)) (entryAt next) (d .choices) c (p .covered))

@@ -1,9 +1,7 @@
--- assignment_solver.rs: the schedule state, its blocks, check 12, build, update, slot list, and what holds of every carried state.
+-- assignment_solver.rs: the schedule state, check 12, and what build, update and slot list give and leave.
 pub mod Bytes
-pub mod Blocks
+pub mod BytesLaws
 pub mod State
 pub mod Calls
 pub mod Good
 pub mod Numbers
-pub mod Agreement
-pub mod CarriedAgrees

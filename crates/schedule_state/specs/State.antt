@@ -12,7 +12,7 @@ use Rattle.scheduling.specs.Handed.{keptOf}
 use Rattle.scheduling.specs.Schedule.{entryAt}
 use Rattle.slot_lists.specs.Held.{misheld}
 use Rattle.slot_lists.specs.Sums.{weighed}
-use Rattle.schedule_state.specs.Blocks.{blockedBy, cell}
+use Rattle.blocks.specs.Blocks.{blockedBy, cell}
 use Rattle.schedule_state.specs.declared.AssignmentScheduleState.{AssignmentScheduleState}
 
 -- document 01's covered: the sum of min over the choices that the schedule puts into slot s

@@ -1,5 +1,5 @@
 // Check 12: a state that is handed in is held against its own schedule.
-use crate::blocks::fill_blocks;
+use blocks::fill_blocks;
 use input_data::Limits;
 use input_data::flag;
 use input_data::word;

@@ -1,22 +1,17 @@
-// assignment_solver.rs: the state that is carried from schedule to schedule.
-mod blocks;
+// assignment_solver.rs: the state that is carried from schedule to schedule, and check 12.
 mod bytes;
 mod checks;
 mod listing;
 mod number;
-mod state;
 
 pub use bytes::state_of;
 pub use listing::SlotListAnswer;
 pub use listing::list_front;
-pub use listing::slot_list;
-pub use listing::slot_list_answer;
-pub use listing::slot_list_number;
+pub use number::beside;
 pub use number::ones;
 pub use number::state_number;
+pub use number::test_state;
 use scheduling::Scheduling;
-pub use state::build;
-pub use state::update;
 
 // Lists of choices stand in a lent buffer; their lengths follow from the schedule. A state is lent as bytes, in this layout.
 #[repr(C)]

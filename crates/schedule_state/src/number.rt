@@ -7,7 +7,7 @@ ghost use lib.ListN.{length, replicate};
 ghost use Rattle.counting.specs.Lent.{old, new};
 ghost use Rattle.input_data.specs.Bytes.{IsDay, dayOf, wider};
 ghost use Rattle.input_data.specs.Lengths.{Within};
-ghost use Rattle.slot_lists.specs.Sums.{Unweighed};
+ghost use Rattle.slot_lists.specs.SumsLaws.{Unweighed};
 ghost use Rattle.schedule_state.specs.Bytes.{stateIn};
 ghost use Rattle.schedule_state.specs.Calls.{besideLists, stateNumber};
 ghost use Rattle.schedule_state.specs.Good.{Handed, Found};
@@ -25,11 +25,11 @@ pub fn beside(limits: Limits, wrong: bool, size: usize, asked: bool) -> Beside
     ensures { λ r. ⌜ r ≡ wider wrong (besideLists limits size asked) ⌝ }
 {
     Beside {
-        lengths: wrong | (size < limits.choices * limits.slots),
-        preferences: false,
-        levels: false,
-        costs: false,
-        asked: asked,
+        bad_lengths: wrong | (size < limits.choices * limits.slots),
+        bad_preferences: false,
+        bad_levels: false,
+        bad_costs: false,
+        bad_asked: asked,
     }
 }
 
@@ -48,7 +48,7 @@ pub fn test_state(
     requires { ⌜ IsDay (now day) × Handed limits beside (now state) (length (now lists)) × Unweighed (now lens) (now covered) ⌝ }
     ensures { λ r. ⌜ Found limits (dayOf (old day)) (stateIn (old state)) beside also (old lists) (new lens) (new covered) r ⌝ }
 {
-    let number = input_data::day_number(limits, day, beside, 0);
+    let number = day_checks::day_number(limits, day, beside, 0);
     if number != 0 {
         return number;
     }

@@ -9,7 +9,7 @@ ghost use Rattle.counting.specs.Lent.{old};
 ghost use Rattle.score.specs.TotalOrder.{negZero, posZero};
 ghost use Rattle.score.specs.Order.{infiniteTwice, finiteScore, scoreOrder, orderNumber, isLess};
 ghost use Rattle.score.specs.Before.{isBefore, plainOrder, beatsHeld};
-ghost use Rattle.score.specs.Best.{refused, bestTo};
+ghost use Rattle.score.specs.Best.{bestRefused, bestTo};
 ghost use Rattle.score.specs.Listed.{scoreAt, scoresIn, bestIn};
 
 // A score: less is better.
@@ -236,7 +236,7 @@ fn best_among(floats: &[f32], count: usize) -> Ranked
 }
 
 fn refuse(number: u32) -> BestAnswer
-    ensures { λ r. ⌜ r ≡ refused number ⌝ }
+    ensures { λ r. ⌜ r ≡ bestRefused number ⌝ }
 {
     BestAnswer {
         number: number,

@@ -6,8 +6,7 @@ use lib.Dec.{eqb}
 use lib.IntN.{pos}
 use lib.Ieee.{Float, fin}
 use lib.ListN.{length}
-use Rattle.assignment.specs.Calls.{besidePlan, seats}
-use Rattle.assignment.specs.Plan.{badPlanFor}
+use Rattle.assignment.specs.Calls.{besidePlan}
 use Rattle.input_data.specs.Bytes.{dayOf, lentNumber}
 use Rattle.input_data.specs.Checks.{firstOf, dayNumber, badPreferences}
 use Rattle.input_data.specs.Lengths.{planLength, preferencesLength, powersLength}
@@ -19,12 +18,13 @@ use Rattle.scheduling.specs.declared.Scheduling.{Scheduling}
 use Rattle.score.specs.Order.{infiniteTwice}
 use Rattle.score.specs.declared.Score.{Score}
 use Rattle.satisfies_constraints.specs.Constraints.{schedulingMet, assignmentMet}
-use Rattle.scoring.specs.Evaluate.{evaluated}
-use Rattle.scoring.specs.Feasible.{scheduleFeasible, planFeasible}
+use Rattle.feasibility.specs.Checks.{partsNumber}
+use Rattle.feasibility.specs.Feasible.{scheduleFeasible, planFeasible}
+use Rattle.plan_score.specs.Evaluate.{evaluated}
 use Rattle.scoring.specs.declared.ScoreAnswer.{ScoreAnswer}
 use Rattle.scoring.specs.declared.VerdictAnswer.{VerdictAnswer}
-use Rattle.scoring.specs.declared.Solution.{Solution}
-use Rattle.scoring.specs.declared.Solution.the-variants as Solution
+use Rattle.scoring.specs.declared.solution.Solution.{Solution}
+use Rattle.scoring.specs.declared.solution.Solution.the-variants as Solution
 
 abbrev pub verdict : ℕ → Bool → VerdictAnswer
 verdict n b = record { number = n; holds = b }
@@ -36,32 +36,18 @@ verdictOf n b = cond (eqb n 0) (verdict 0 b) (verdict n false)
 -- ---- a schedule
 
 abbrev pub besideNone : Beside
-besideNone = record { lengths = false; preferences = false; levels = false; costs = false; asked = false }
+besideNone = record { «bad_lengths» = false; «bad_preferences» = false; «bad_levels» = false; «bad_costs» = false; «bad_asked» = false }
 
 unfoldable pub scheduleNumber : Limits → InputData → Scheduling → ℕ
 scheduleNumber l d sch = dayNumber l d besideNone (firstOf (outside d sch) 11 0)
-
-unfoldable pub schedulingAnswer : Limits → InputData → Scheduling → VerdictAnswer
-schedulingAnswer l d sch = verdictOf (scheduleNumber l d sch) (schedulingMet d (keptOf d sch))
 
 unfoldable pub scheduleAnswer : Limits → InputData → Scheduling → VerdictAnswer
 scheduleAnswer l d sch = verdictOf (scheduleNumber l d sch) (scheduleFeasible d (keptOf d sch))
 
 -- ---- a schedule and a plan
 
--- 13 in full
-abbrev pub badSeats : InputData → Scheduling → List ℕ → Bool
-badSeats d sch plan = badPlanFor (d .choices) (seats d) (sch .entries) plan
-
--- 11 and 13 of the parts that are there
-unfoldable pub partsNumber : Bool → Bool → InputData → Scheduling → List ℕ → ℕ
-partsNumber schedule seated d sch plan = firstOf (schedule && outside d sch) 11 (firstOf (seated && badSeats d sch plan) 13 0)
-
 unfoldable pub verdictNumber : Limits → InputData → Scheduling → List ℕ → ℕ
 verdictNumber l d sch plan = dayNumber l d (besidePlan l (length plan) false false) (partsNumber true true d sch plan)
-
-unfoldable pub assignmentAnswer : Limits → InputData → Scheduling → List ℕ → VerdictAnswer
-assignmentAnswer l d sch plan = verdictOf (verdictNumber l d sch plan) (assignmentMet d (keptOf d sch) plan)
 
 unfoldable pub planAnswer : Limits → InputData → Scheduling → List ℕ → VerdictAnswer
 planAnswer l d sch plan = verdictOf (verdictNumber l d sch plan) (planFeasible d (keptOf d sch) plan)
@@ -86,11 +72,11 @@ wrongTables l d there preferences powers plan =
 
 abbrev pub besideTables : Limits → InputData → Bool → List ℕ → ℕ → ℕ → Beside
 besideTables l d there preferences powers plan = record {
-  lengths = wrongTables l d there (length preferences) powers plan;
-  preferences = badPreferences (d .«max_preference») preferences;
-  levels = false;
-  costs = false;
-  asked = false;
+  «bad_lengths» = wrongTables l d there (length preferences) powers plan;
+  «bad_preferences» = badPreferences (d .«max_preference») preferences;
+  «bad_levels» = false;
+  «bad_costs» = false;
+  «bad_asked» = false;
 }
 
 unfoldable pub evaluateNumber : Limits → InputData → Solution → Scheduling → List ℕ → List ℕ → ℕ → ℕ
@@ -101,15 +87,15 @@ evaluateNumber l d kind sch plan preferences powers =
 abbrev pub scored : InputData → Solution → Bool → List ℕ → List Float → Scheduling → List ℕ → Score
 scored d kind greedy preferences powers sch plan = cond (hasPlan kind) (evaluated d greedy preferences powers (keptOf d sch) plan) infiniteTwice
 
-abbrev pub noScore : Score
-noScore = record { major = fin false 0 (pos 0); minor = fin false 0 (pos 0) }
+abbrev pub zeroScore : Score
+zeroScore = record { major = fin false 0 (pos 0); minor = fin false 0 (pos 0) }
 
-abbrev pub score : ℕ → Score → ScoreAnswer
-score n s = record { number = n; score = s }
+abbrev pub scoreAnswer : ℕ → Score → ScoreAnswer
+scoreAnswer n s = record { number = n; score = s }
 
 -- the number, and the score or zeros
 abbrev pub scoreOr : ℕ → Score → ScoreAnswer
-scoreOr n s = cond (eqb n 0) (score 0 s) (score n noScore)
+scoreOr n s = cond (eqb n 0) (scoreAnswer 0 s) (scoreAnswer n zeroScore)
 
 unfoldable pub evaluateAnswer : Limits → InputData → Solution → Scheduling → List ℕ → Bool → List ℕ → List Float → ScoreAnswer
 evaluateAnswer l d kind sch plan greedy preferences powers =

@@ -1,6 +1,6 @@
 -- What accepted input satisfies, and the numbers and answers as the code comes to them. Assumes nothing.
 use Prim.Native.Nat.{ℕ, _+_, _*_, _<_, _≤_}
-use mathlib.Core.Path.{_≡_, refl, sym, ap, ap₂, _∙_}
+use mathlib.Core.Path.{_≡_, refl, sym, ap, _∙_}
 use mathlib.Core.Bool.{Bool, true, false, not, _&&_, _||_, or-false}
 use mathlib.Core.List.{List}
 use mathlib.Core.Logic.{_≢_}
@@ -8,79 +8,37 @@ use native.Mathlib.Nat.{mul-le-mul}
 use native.Mathlib.Omega.{arith}
 use lib.Dec.{eqb, ltb, leb}
 use lib.ListN.{length}
-use borrow.Author.Tests.{eqb-true, eqb-false, eq-eqb, ne-eqb, ltb-true, ltb-false, leb-false, not-false}
+use borrow.Author.Tests.{eqb-true, eqb-false, eq-eqb, ne-eqb, ltb-false, leb-false, not-false}
 use Rattle.assignment.specs.Calls.{besidePlan, seats}
-use Rattle.assignment.specs.Laws.{Small, small, seats-most, plan-accepted}
+use Rattle.assignment.specs.Laws.{small, seats-most, plan-accepted}
 use Rattle.assignment.specs.Plan.{choiceOf, unseated, badPlanFor}
-use Rattle.constraint.specs.Cases.{targetOperand}
-use Rattle.constraint.specs.Kind.{kindNumber, kindOf}
-use Rattle.constraint.specs.declared.Constraint.{Constraint}
-use Rattle.constraint.specs.declared.ConstraintType.{ConstraintType}
-use Rattle.constraint.specs.declared.ConstraintType.the-variants.{ChoicesHaveSameChoosers, ChooserIsInChoice, ChooserIsNotInChoice, ChoosersHaveSameChoices}
-use Rattle.counting.specs.Fold.{allTo, fold-ext}
 use Rattle.counting.specs.Lists.{length-table}
 use Rattle.counting.specs.Sums.{grid-lt}
-use Rattle.counting.specs.Tests.{or-split, none-each, eq-cases, never}
+use Rattle.counting.specs.Tests.{or-split, none-each, never}
 use Rattle.input_data.specs.Accepted.{Accepted, accepted, past, first-zero}
 use Rattle.input_data.specs.Bytes.{IsDay, dayOf, wider, lentNumber}
 use Rattle.input_data.specs.BytesLaws.{lent-number, lent-zero, lent-is}
 use Rattle.input_data.specs.Checks.{firstOf, dayNumber, badPreferences, aboveAt, tooMany}
-use Rattle.input_data.specs.Day.{numbersAt, constraintAt}
-use Rattle.input_data.specs.Fits.{left-is, right-is}
-use Rattle.input_data.specs.Numbered.{AsNumbers, WithExtra, Numbered, scheduling-numbered, assignment-numbered}
 use Rattle.input_data.specs.Lengths.{Within, planLength, preferencesLength, powersLength}
-use Rattle.input_data.specs.Operands.{leftCase, rightCase, isOneOf}
 use Rattle.input_data.specs.declared.Limits.{Limits}
 use Rattle.input_data.specs.declared.InputData.{InputData}
-use Rattle.satisfies_constraints.specs.Laws.{InPlan, OperandsIn, ListIn}
-use Rattle.scheduling.specs.Handed.{scheduleOf, notSchedule, outside, keptOf, schedule-long, kept-inside}
-use Rattle.scheduling.specs.Schedule.{entryAt, keptAt, kept-at}
+use Rattle.feasibility.specs.Checks.{badSeats, partsNumber}
+use Rattle.feasibility.specs.Feasible.{scheduleFeasible, planFeasible}
+use Rattle.feasibility.specs.Laws.{Schedulable, Judged, Parted}
+use Rattle.plan_score.specs.Laws.{Weighed, Evaluable}
+use Rattle.scheduling.specs.Handed.{scheduleOf, notSchedule, outside, keptOf}
+use Rattle.scheduling.specs.HandedLaws.{schedule-long, kept-inside}
+use Rattle.scheduling.specs.Schedule.{entryAt, keptAt}
+use Rattle.scheduling.specs.ScheduleLaws.{kept-at}
 use Rattle.scheduling.specs.declared.Scheduling.{Scheduling}
-use Rattle.seat_counts.specs.Laws.{Seated, Choices, Parts, Reading}
-use Rattle.seat_counts.specs.Seats.{filledAt, allFilled, partCount}
-use Rattle.slot_lists.specs.Sums.{added, Adds, Weighs, Sums, Unweighed, unweighed-none, sums-next, sums-most}
-use Rattle.scoring.specs.Calls.{verdict, verdictOf, besideNone, scheduleNumber, scheduleAnswer, badSeats, partsNumber, verdictNumber, planAnswer, hasSchedule, hasPlan, besideTables, evaluateNumber, noScore, score, scoreOr, scheduleLent, planLent, evaluateLentNumber}
+use Rattle.seat_counts.specs.Laws.{Reading}
+use Rattle.slot_lists.specs.SumsLaws.{Weighs}
+use Rattle.scoring.specs.Calls.{verdict, verdictOf, besideNone, scheduleNumber, scheduleAnswer, verdictNumber, planAnswer, hasSchedule, hasPlan, besideTables, evaluateNumber, zeroScore, scoreAnswer, scoreOr, scheduleLent, planLent, evaluateLentNumber}
 use Rattle.score.specs.declared.Score.{Score}
-use Rattle.scoring.specs.Feasible.{seatsAll, allSeated, scheduleFeasible, planFeasible}
 use Rattle.scoring.specs.declared.ScoreAnswer.{ScoreAnswer}
-use Rattle.scoring.specs.declared.Solution.{Solution}
-use Rattle.scoring.specs.declared.Solution.the-variants as Solution
+use Rattle.scoring.specs.declared.solution.Solution.{Solution}
+use Rattle.scoring.specs.declared.solution.Solution.the-variants as Solution
 use Rattle.scoring.specs.declared.VerdictAnswer.{VerdictAnswer}
-
--- ---- what the tests of a schedule and of a plan ask
-
-abbrev pub seatsIn : ℕ → ℕ → List ℕ → List ℕ → Bool
-seatsIn choosers slots mins maxs = allTo slots (λ s. leb (entryAt mins s) choosers && leb choosers (entryAt maxs s))
-
-pub record Schedulable (d : InputData) (sch : List ℕ) : Type 0 where
-  pub day : Small d
-  pub mins : Weighs sch (d .mins) (d .choices)
-  pub maxs : Weighs sch (d .maxs) (d .choices)
-  pub count : d .scheduling .count ≤ 32
-  pub numbers : Numbered WithExtra (d .scheduling)
-  pub long : length sch ≡ 32
-
-pub record Judged (d : InputData) (sch plan : List ℕ) : Type 0 where
-  pub day : Small d
-  pub count : d .scheduling .count ≤ 32
-  pub scheduling : Numbered WithExtra (d .scheduling)
-  pub assignment : Numbered AsNumbers (d .assignment)
-  pub list : ListIn (d .choosers) (d .assignment)
-  pub inside : InPlan (d .choosers) (d .slots) (length plan)
-  pub seated : Seated (d .choosers) (d .slots) sch plan
-  pub choices : Choices (seats d) plan
-  pub long : length sch ≡ 32
-
-pub record Weighed (d : InputData) (preferences : List ℕ) (powers : ℕ) (plan : List ℕ) : Type 0 where
-  pub reading : Reading (d .choosers) (d .choices) (d .slots) preferences plan
-  pub most : d .«max_preference» ≤ 255
-  pub table : d .«max_preference» < powers
-
--- a lent day whose score is asked for, with its tables and a plan
-pub record Evaluable (day preferences : List ℕ) (powers : ℕ) (sch plan : List ℕ) : Type 0 where
-  pub long : IsDay day
-  pub judged : Judged (dayOf day) sch plan
-  pub weighed : Weighed (dayOf day) preferences powers plan
 
 -- a lent day whose sizes may be multiplied
 pub record Multiplied (l : Limits) (day : List ℕ) : Type 0 where
@@ -88,79 +46,13 @@ pub record Multiplied (l : Limits) (day : List ℕ) : Type 0 where
   pub within : Within l
   pub few : tooMany l (dayOf day .choosers) (dayOf day .choices) (dayOf day .slots) ≡ false
 
--- a lent day with the parts of a solution that are there
-pub record Parted (scheduled seated : Bool) (day sch : List ℕ) (size : ℕ) : Type 0 where
-  pub long : IsDay day
-  pub small : Small (dayOf day)
-  pub schedule : scheduled ≡ true → length sch ≡ 32
-  pub plan : seated ≡ true → (length sch ≡ 32) × (seats (dayOf day) ≤ size)
-
 -- ---- laws
-
--- a schedule of n choices, and how much they weigh by min and by max
-pub record Weighable (d : InputData) (sch : List ℕ) (n : ℕ) : Type 0 where
-  pub mins : Weighs sch (d .mins) n
-  pub maxs : Weighs sch (d .maxs) n
-
--- two arrays with the sums of min and of max
-pub record SizeSums (d : InputData) (sch : List ℕ) (n : ℕ) (a c : List ℕ) : Type 0 where
-  pub mins : Sums (entryAt (d .mins)) (entryAt sch) n a
-  pub maxs : Sums (entryAt (d .maxs)) (entryAt sch) n c
-
-pub sizes-none : {a c : List ℕ} (d : InputData) (sch : List ℕ) → Unweighed a c → SizeSums d sch 0 a c
-sizes-none d sch p = record { mins = unweighed-none (d .mins) sch (record { lens = p .lens; covered = p .lens }) .covered; maxs = unweighed-none (d .maxs) sch p .covered }
-
--- one choice more, and that its weights fit
-module _ {sch w : List ℕ} {n i : ℕ} {a : List ℕ} (h : Weighs sch w n) (l : i < n) (p : Sums (entryAt w) (entryAt sch) i a) where
-  pub adds-size : Adds (entryAt sch i) (entryAt w i) a
-  adds-size = record { small = h .small i l; fits = λ d. omega (arith, h .count, h .light i l, sums-most p 1000 (λ j b. h .light j (omega arith)) (entryAt sch i) (h .small i l) d) }
-
-  pub size-next : Sums (entryAt w) (entryAt sch) (i + 1) (added (entryAt sch i) (entryAt w i) a)
-  size-next = sums-next p (h .small i l)
-
--- sums that an array holds
-pub seated-sums : (d : InputData) (sch : List ℕ) {mins maxs : List ℕ} → d .slots ≤ 8 → Sums (entryAt (d .mins)) (entryAt sch) (d .choices) mins → Sums (entryAt (d .maxs)) (entryAt sch) (d .choices) maxs → seatsIn (d .choosers) (d .slots) mins maxs ≡ allSeated d sch
-unfolding allSeated
-seated-sums d sch {mins = mins} {maxs = maxs} h p q = fold-ext _&&_ true (d .slots) (λ s. leb (entryAt mins s) (d .choosers) && leb (d .choosers) (entryAt maxs s)) (seatsAll d sch)
-    (λ s b. let u = p .at s (omega arith) in let v = q .at s (omega arith) in ap₂ (λ (x y : ℕ). leb x (d .choosers) && leb (d .choosers) y) u v)
-
--- counts that an array holds
-pub filled-parts : {n choices : ℕ} (sch mins maxs : List ℕ) {plan counts : List ℕ} → choices ≤ 32 → Parts n plan counts → allFilled choices sch mins maxs (entryAt counts) ≡ allFilled choices sch mins maxs (partCount n plan)
-unfolding allFilled
-filled-parts {n = n} {choices = choices} sch mins maxs {plan = plan} {counts = counts} h p = fold-ext _&&_ true choices (filledAt sch mins maxs (entryAt counts)) (filledAt sch mins maxs (partCount n plan))
-    (λ k b. ap (λ (x : ℕ). not (not (eqb (entryAt sch k) 0)) || (leb (entryAt mins k) x && leb x (entryAt maxs k))) (p .at k (omega arith)))
 
 -- a schedule that was accepted weighs the day's choices
 weighs : {l : Limits} {d : InputData} → Within l → Accepted l d → (sch : Scheduling) → outside d sch ≡ false → (w : List ℕ) → ((k : ℕ) → k < d .choices → entryAt w k ≤ 1000) → Weighs (keptOf d sch) w (d .choices)
 weighs {d = d} w a sch i v light =
     let s = small w a in
     record { count = s .choices; small = λ k h. omega (arith, kept-inside d sch (s .choices) i k h, s .slots); light = light }
-
--- the constraints of an accepted list name choosers of the day
-module _ {l : Limits} {d : InputData} (a : Accepted l d) (j : ℕ) (h : j < d .assignment .count) where
-  abbrev con : Constraint
-  con = constraintAt (d .assignment) j
-
-  operands : (k : ConstraintType) → con .kind ≡ k → (isOneOf (d .choosers) (d .choices) (d .slots) (leftCase k) (con .left) ≡ true) × (isOneOf (d .choosers) (d .choices) (d .slots) (rightCase k) (targetOperand (con .right)) ≡ true)
-  operands k e = (rw e at (left-is (d .choosers) (d .choices) (d .slots) con (a .assignment .operands j h)), rw e at (right-is (d .choosers) (d .choices) (d .slots) con (a .assignment .operands j h)))
-
-  operands-in : OperandsIn (d .choosers) (kindNumber (con .kind)) (con .left) (targetOperand (con .right))
-  unfolding kindOf
-  operands-in =
-      let n = numbersAt (d .assignment) j .kind in
-      let low = a .assignment .kind-least j h in
-      let high = a .assignment .kind-most j h in
-      eq-cases n 65536
-      (λ e t. let k : con .kind ≡ ChoicesHaveSameChoosers = rw e in rw k (record { is-in = λ z. absurd (omega (arith, z)); is-not-in = λ z. absurd (omega (arith, z)); same = λ z y x. absurd (z refl) }))
-      (λ e t. eq-cases n 65537
-      (λ e′ t′. let k : con .kind ≡ ChooserIsInChoice = rw e′ in let o = operands ChooserIsInChoice k in rw k (record { is-in = λ z. ltb-true _ _ (o .0); is-not-in = λ z. absurd (omega (arith, z)); same = λ z y x. absurd (y refl) }))
-      (λ e′ t′. eq-cases n 65538
-      (λ e″ t″. let k : con .kind ≡ ChooserIsNotInChoice = rw e″ in let o = operands ChooserIsNotInChoice k in rw k (record { is-in = λ z. absurd (omega (arith, z)); is-not-in = λ z. ltb-true _ _ (o .0); same = λ z y x. absurd (x refl) }))
-      (λ e″ t″. let e‴ : n ≡ 65539 = omega (arith, low, high) in let k : con .kind ≡ ChoosersHaveSameChoices = rw e‴ in let o = operands ChoosersHaveSameChoices k in
-      rw k (record { is-in = λ z. absurd (omega (arith, z)); is-not-in = λ z. absurd (omega (arith, z)); same = λ z y x. (ltb-true _ _ (o .0), ltb-true _ _ (o .1)) }))))
-
-list-in : {l : Limits} {d : InputData} → Accepted l d → ListIn (d .choosers) (d .assignment)
-list-in a = record { count = a .assignment .count; each = λ j h. operands-in a j h }
 
 -- ---- a schedule that was accepted
 
@@ -174,8 +66,7 @@ schedule-accepted l d sch w e =
       day = small w a;
       mins = weighs w a sch i (d .mins) (λ k h. omega (arith, a .min-max k h, a .max-most k h));
       maxs = weighs w a sch i (d .maxs) (a .max-most);
-      count = a .scheduling .count;
-      numbers = scheduling-numbered (omega (arith, small w a .slots)) (a .scheduling);
+      scheduling = a .scheduling;
       long = length-table 32 (keptAt (d .choices) (sch .entries));
     }
 
@@ -205,10 +96,8 @@ module _ {l : Limits} {d : InputData} (sch : Scheduling) (plan : List ℕ) (w : 
       let s = small w a in
       record {
         day = s;
-        count = a .scheduling .count;
-        scheduling = scheduling-numbered (omega (arith, s .slots)) (a .scheduling);
-        assignment = assignment-numbered (a .assignment);
-        list = list-in a;
+        scheduling = a .scheduling;
+        assignment = a .assignment;
         inside = record { few = s .choosers; short = s .slots; inside = long };
         seated = record {
           few = s .choosers;
@@ -274,8 +163,11 @@ verdict-parts l day sch plan w h p z =
     record { long = h; small = small w a; schedule = λ t. schedule-long sch (u .0); plan = λ t. (schedule-long sch (u .0), omega (arith, n, m)) }
 
 -- nothing else that is lent is short
-pub beside-plan : (l : Limits) (d : InputData) (wrong : Bool) (size rest : ℕ) {n : ℕ} → n ≡ dayNumber l d (record { lengths = wrong || not (eqb size (planLength l)); preferences = false; levels = false; costs = false; asked = false }) rest → n ≡ dayNumber l d (wider wrong (besidePlan l size false false)) rest
-beside-plan l d wrong size rest p = rw (or-false (not (eqb size (planLength l)))) p
+pub beside-schedule : (l : Limits) (d : InputData) (sch : List ℕ) (rest : ℕ) {n : ℕ} {wrong : Bool} → wrong ≡ notSchedule sch → n ≡ dayNumber l d (record { «bad_lengths» = wrong; «bad_preferences» = false; «bad_levels» = false; «bad_costs» = false; «bad_asked» = false }) rest → n ≡ dayNumber l d (wider (notSchedule sch) besideNone) rest
+beside-schedule l d sch rest e p = rw (or-false (notSchedule sch)) (rw e at p)
+
+pub beside-plan : (l : Limits) (d : InputData) (sch : List ℕ) (size rest : ℕ) {n : ℕ} {wrong : Bool} → wrong ≡ notSchedule sch → n ≡ dayNumber l d (record { «bad_lengths» = wrong || not (eqb size (planLength l)); «bad_preferences» = false; «bad_levels» = false; «bad_costs» = false; «bad_asked» = false }) rest → n ≡ dayNumber l d (wider (notSchedule sch) (besidePlan l size false false)) rest
+beside-plan l d sch size rest e p = rw (or-false (not (eqb size (planLength l)))) (rw e at p)
 
 -- ---- answers
 
@@ -356,10 +248,10 @@ evaluate-lent l day kind sch plan preferences powers w e h =
     let q = evaluate-accepted l (dayOf day) kind (scheduleOf sch) plan preferences powers w (p .zero) h in
     (schedule-long sch (rw (with-schedule kind h) at (p .right)), record { long = p .day; judged = q .0; weighed = q .1 })
 
-pub score-refused : (n : ℕ) (s : Score) {m : ℕ} {r : ScoreAnswer} → m ≡ n → m ≢ 0 → r ≡ score m noScore → r ≡ scoreOr n s
+pub score-refused : (n : ℕ) (s : Score) {m : ℕ} {r : ScoreAnswer} → m ≡ n → m ≢ 0 → r ≡ scoreAnswer m zeroScore → r ≡ scoreOr n s
 score-refused n s e d p = p ∙ rw (ne-eqb n 0 (λ z. d (e ∙ z)), e)
 
-pub score-done : (n : ℕ) (s : Score) {m : ℕ} {t : Score} {r : ScoreAnswer} → m ≡ n → m ≡ 0 → r ≡ score 0 t → t ≡ s → r ≡ scoreOr n s
+pub score-done : (n : ℕ) (s : Score) {m : ℕ} {t : Score} {r : ScoreAnswer} → m ≡ n → m ≡ 0 → r ≡ scoreAnswer 0 t → t ≡ s → r ≡ scoreOr n s
 score-done n s e z p q = let y : n ≡ 0 = sym e ∙ z in p ∙ rw (q, y)
 
 -- ---- bytes of their lengths: the answers are those on what they stand for

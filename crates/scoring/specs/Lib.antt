@@ -1,5 +1,3 @@
--- scoring.rs and solution.rs: both is_feasible, evaluate.
-pub mod Feasible
-pub mod Evaluate
+-- scoring.rs and solution.rs: the calls.
 pub mod Calls
 pub mod Laws

@@ -1,9 +1,10 @@
-// scoring.rs and solution.rs, with Scheduling::is_feasible of scheduling.rs, which needs the constraint
-// tests: the verdict on a schedule and on a plan, and the score.
+// scoring.rs and solution.rs, with Scheduling::is_feasible of scheduling.rs: the calls that give the verdict on a schedule
+// and on a plan, and the score.
 mod evaluating;
 mod numbers;
 mod plan;
 mod schedule;
+mod solution;
 
 pub use evaluating::evaluate;
 pub use plan::is_feasible;
@@ -11,13 +12,7 @@ pub use plan::satisfies_constraints_assignment;
 pub use schedule::satisfies_constraints_scheduling;
 pub use schedule::schedule_is_feasible;
 use score::Score;
-
-// Which parts a solution has. Schedule and plan stand beside it.
-pub enum Solution {
-    Invalid,
-    Scheduling,
-    Complete,
-}
+pub use solution::Solution;
 
 // The number of the answer, and whether the test holds; no where refused.
 #[repr(C)]

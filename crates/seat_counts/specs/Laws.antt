@@ -13,7 +13,8 @@ use lib.ListN.{length, getD, set, replicate, length-set, getD-replicate, List·g
 use lib.Seq.{getD-set-same, getD-set-other}
 use borrow.Author.Tests.{eq-eqb, ne-eqb}
 use Rattle.assignment.specs.Plan.{choiceOf}
-use Rattle.counting.specs.Fold.{gate, sumTo, countTo, allTo, anyTo, foldTo, fold-none, fold-more, fold-ext}
+use Rattle.counting.specs.Fold.{gate, sumTo, countTo, allTo, anyTo, foldTo}
+use Rattle.counting.specs.FoldLaws.{fold-none, fold-more, fold-ext}
 use Rattle.counting.specs.Sums.{sum-most, count-le, grid-lt}
 use Rattle.counting.specs.Tests.{eq-cases, lt-cases}
 use Rattle.scheduling.specs.Schedule.{entryAt}
@@ -60,7 +61,7 @@ pub record Reading (choosers choices slots : ℕ) (preferences plan : List ℕ) 
   pub small : (i : ℕ) → i < length preferences → entryAt preferences i ≤ 255
 
 -- an array holds what f says of each preference
-pub record Holds (f : ℕ → ℕ) (counts : List ℕ) : Type 0 where
+pub record UsesHeld (f : ℕ → ℕ) (counts : List ℕ) : Type 0 where
   pub long : length counts ≡ 256
   pub at : (p : ℕ) → p < 256 → entryAt counts p ≡ f p
 
@@ -143,15 +144,15 @@ module _ (choices slots : ℕ) (preferences plan : List ℕ) where
   unfolding usesTo
   added-most c s h p l = omega (arith, h .at p l, count-le s (hasPreference choices slots preferences plan p c))
 
-  pub holds-none : Holds (usesBefore choices slots preferences plan 0) (replicate 256 0)
+  pub holds-none : UsesHeld (usesBefore choices slots preferences plan 0) (replicate 256 0)
   unfolding usesBefore
   holds-none = record { long = refl; at = λ p l. getD-replicate 256 p 0 0 l ∙ sym (fold-none _+_ 0 (usesRow choices slots preferences plan p)) }
 
-  pub holds-more : (c : ℕ) {a b : List ℕ} → Holds (usesBefore choices slots preferences plan c) a → Added (usesIn choices slots preferences plan c) a b → Holds (usesBefore choices slots preferences plan (c + 1)) b
+  pub holds-more : (c : ℕ) {a b : List ℕ} → UsesHeld (usesBefore choices slots preferences plan c) a → Added (usesIn choices slots preferences plan c) a b → UsesHeld (usesBefore choices slots preferences plan (c + 1)) b
   unfolding usesBefore
   holds-more c h g = record { long = g .long ∙ h .long; at = λ p l. omega (arith, h .at p l, g .at p l, fold-more _+_ 0 c (usesRow choices slots preferences plan p)) }
 
-  pub holds-all : (choosers c : ℕ) {a : List ℕ} → c ≡ choosers → Holds (usesBefore choices slots preferences plan c) a → Holds (uses choosers choices slots preferences plan) a
+  pub holds-all : (choosers c : ℕ) {a : List ℕ} → c ≡ choosers → UsesHeld (usesBefore choices slots preferences plan c) a → UsesHeld (uses choosers choices slots preferences plan) a
   unfolding uses usesBefore
   holds-all choosers c e h = rw e at h
 
@@ -161,7 +162,7 @@ module _ (choices slots : ℕ) (preferences plan : List ℕ) where
   uses-most c p = sum-most c slots (usesRow choices slots preferences plan p) (λ i l. count-le slots (hasPreference choices slots preferences plan p i))
 
   -- the counts of the choosers before c leave room for those of chooser c
-  pub counting : {choosers : ℕ} (c : ℕ) {counts : List ℕ} → slots ≤ 8 → c < choosers → Holds (usesBefore choices slots preferences plan c) counts → Counting choosers c counts
+  pub counting : {choosers : ℕ} (c : ℕ) {counts : List ℕ} → slots ≤ 8 → c < choosers → UsesHeld (usesBefore choices slots preferences plan c) counts → Counting choosers c counts
   counting c b l h = record {
     chooser = l;
     long = h .long;
@@ -246,7 +247,7 @@ pub greatest-small : {choosers choices slots : ℕ} {preferences plan : List ℕ
 unfolding greatest greatestRow
 greatest-small {choosers = choosers} {choices = choices} {slots = slots} {preferences = preferences} {plan = plan} r = fold-max choosers 255 (greatestRow choices slots preferences plan) (λ c l. fold-max slots 255 (preferenceAt choices slots preferences plan c) (λ s m. preference-small r c s l m))
 
-pub weighing : {choosers choices slots : ℕ} {preferences plan counts : List ℕ} {powers most : ℕ} → Reading choosers choices slots preferences plan → Holds (uses choosers choices slots preferences plan) counts → most ≤ 255 → most < powers → Weighing counts powers most
+pub weighing : {choosers choices slots : ℕ} {preferences plan counts : List ℕ} {powers most : ℕ} → Reading choosers choices slots preferences plan → UsesHeld (uses choosers choices slots preferences plan) counts → most ≤ 255 → most < powers → Weighing counts powers most
 unfolding uses usesBefore
 weighing {choosers = n} {choices = choices} {slots = slots} {preferences = preferences} {plan = plan} {counts = counts} r h m b = record {
   most-is = m;
@@ -257,7 +258,7 @@ weighing {choosers = n} {choices = choices} {slots = slots} {preferences = prefe
 }
 
 -- the minor of counts that an array holds
-pub minor-holds : {f : ℕ → ℕ} {counts : List ℕ} (powers : List Float) (most : ℕ) → Holds f counts → most ≤ 255 → minorOf (entryAt counts) powers most ≡ minorOf f powers most
+pub minor-holds : {f : ℕ → ℕ} {counts : List ℕ} (powers : List Float) (most : ℕ) → UsesHeld f counts → most ≤ 255 → minorOf (entryAt counts) powers most ≡ minorOf f powers most
 unfolding minorOf minorTo
 minor-holds {f = f} {counts = counts} powers most h m = fold-ext (add binary32) (fin false 0 (pos 0)) (most + 1) (termOf (entryAt counts) powers (scalingOf most powers)) (termOf f powers (scalingOf most powers))
     (λ p l. ap (λ (n : ℕ). div binary32 (mul binary32 (ofInt binary32 (pos n)) (getD powers p nan)) (scalingOf most powers)) (h .at p (omega arith)))

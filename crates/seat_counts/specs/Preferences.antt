@@ -39,9 +39,13 @@ uses choosers choices slots preferences plan p = sumTo choosers (usesRow choices
 abbrev pub scalingOf : ℕ → List Float → Float
 scalingOf most powers = cond (eqb most 0) (fin false 1 (pos 0)) (getD powers most nan)
 
--- (count × power) / scaling of one preference
+-- (count × power) / scaling
+abbrev pub weightedBy : ℕ → Float → Float → Float
+weightedBy count power scaling = div binary32 (mul binary32 (ofInt binary32 (pos count)) power) scaling
+
+-- .. of one preference
 abbrev pub termOf : (ℕ → ℕ) → List Float → Float → ℕ → Float
-termOf count powers scaling p = div binary32 (mul binary32 (ofInt binary32 (pos (count p))) (getD powers p nan)) scaling
+termOf count powers scaling p = weightedBy (count p) (getD powers p nan) scaling
 
 -- from +0.0, for each preference upward, rounded at every step
 unfoldable pub minorTo : (ℕ → ℕ) → List Float → Float → ℕ → Float

@@ -1,10 +1,10 @@
 // The preferences that a plan uses: the greatest, how often each is used, and the minor of the score.
 ghost use mathlib.Core.Path.{_≡_};
-ghost use Prim.Native.Nat.{_<_, max};
+ghost use Prim.Native.Nat.{_<_, _≤_, max};
 ghost use lib.ListN.{length};
 ghost use Rattle.scheduling.specs.Schedule.{entryAt};
-ghost use Rattle.seat_counts.specs.Preferences.{preferenceAt, greatestRow, greatest, usesIn, uses, scalingOf, minorOf};
-ghost use Rattle.seat_counts.specs.Laws.{Reading, Counting, Added, Holds, Weighing};
+ghost use Rattle.seat_counts.specs.Preferences.{preferenceAt, greatestRow, greatest, usesIn, uses, scalingOf, weightedBy, minorOf};
+ghost use Rattle.seat_counts.specs.Laws.{Reading, Counting, Added, UsesHeld, Weighing};
 
 fn greater(a: u32, b: u32) -> u32
     ensures { λ r. ⌜ r ≡ max a b ⌝ }
@@ -105,7 +105,7 @@ pub fn count_preferences(
     plan: &[u8],
 ) -> [u32; 256]
     requires { ⌜ Reading choosers choices slots (now preferences) (now plan) ⌝ }
-    ensures { λ r. ⌜ Holds (uses choosers choices slots (now (preferences .entry)) (now (plan .entry))) r ⌝ }
+    ensures { λ r. ⌜ UsesHeld (uses choosers choices slots (now (preferences .entry)) (now (plan .entry))) r ⌝ }
 {
     let mut counts = [0u32; 256];
     let mut c = 0;
@@ -127,7 +127,15 @@ fn scaling(powers: &[f32], most: usize) -> f32
     powers[most]
 }
 
-// The sum of (count × power) / scaling, upward, each step rounded. No preference is left out.
+// (count × power) / scaling. A count of 0 is not left out: 0 × ∞ is NaN.
+fn term(count: u32, power: f32, by: f32) -> f32
+    requires { ⌜ count ≤ 512 ⌝ }
+    ensures { λ r. ⌜ r ≡ weightedBy count power by ⌝ }
+{
+    (count as f32) * power / by
+}
+
+// The sum of the terms, upward, each step rounded.
 pub fn minor(counts: &[u32; 256], powers: &[f32], most: usize) -> f32
     requires { ⌜ Weighing (now counts) (length (now powers)) most ⌝ }
     ensures { λ r. ⌜ r ≡ minorOf (entryAt (now (counts .entry))) (now (powers .entry)) most ⌝ }
@@ -136,7 +144,7 @@ pub fn minor(counts: &[u32; 256], powers: &[f32], most: usize) -> f32
     let mut sum: f32 = 0.0;
     let mut p = 0;
     while p <= most {
-        sum = sum + (counts[p] as f32) * powers[p] / by;
+        sum = sum + term(counts[p], powers[p], by);
         p += 1;
     }
     sum

@@ -1,13 +1,12 @@
--- The negation's answer in numbers, and how it follows from those that came in. Assumes nothing.
+-- The negation's answer in numbers. Definitions only.
 use Prim.Native.Nat.{ℕ}
-use mathlib.Core.Path.{_≡_, sym, ap, _∙_}
-use mathlib.Core.Bool.{true, false, cond}
-use lib.IntN.{ℤ, pos}
+use mathlib.Core.Bool.{cond}
+use lib.IntN.{ℤ}
 use Rattle.constraint.specs.declared.NegationAnswer.{NegationAnswer}
-use Rattle.constraint.specs.Kind.{kindNumber, kindOf}
-use Rattle.constraint.specs.Cases.{operatorOf, targetCase, targetOperand, extraCase, extraOperand}
-use Rattle.constraint.specs.Negation.{negatedKind, refused, negationOf, constraintOf}
-use Rattle.constraint.specs.Numbers.{isTarget, hasOperator, hasExtra, negatedExtra, case-is, operand-is, extra-case-is, extra-operand-is, negated-case-is, negation-refused, negation-limit, negation-else}
+use Rattle.constraint.specs.Kind.{kindNumber}
+use Rattle.constraint.specs.Cases.{targetCase, targetOperand, extraCase, extraOperand}
+use Rattle.constraint.specs.Negation.{negationRefused}
+use Rattle.constraint.specs.Numbers.{isTarget}
 use Rattle.seating.specs.declared.constraints.NegationNumbers.{NegationNumbers}
 
 -- number and values of each case
@@ -23,7 +22,7 @@ negationNumbers a = record {
 }
 
 abbrev pub refusedNumbers : ℕ → NegationNumbers
-refusedNumbers n = negationNumbers (refused n)
+refusedNumbers n = negationNumbers (negationRefused n)
 
 -- an answer with another kind and extra; left and target are kept
 abbrev pub negatedNumbers : ℕ → ℕ → ℕ → ℕ → ℕ → ℤ → NegationNumbers
@@ -36,15 +35,3 @@ negatedNumbers k l t n x z = record {
   «extra_case» = x;
   extra = z;
 }
-
--- a size limit without an operator, one with, and every other kind
-module _ (k l t n x : ℕ) (z : ℤ) where
-  pub numbers-refused : k ≡ 6 → hasOperator x z ≡ false → refusedNumbers 9 ≡ negationNumbers (negationOf (constraintOf k l t n x z))
-  numbers-refused e h = sym (ap negationNumbers (negation-refused k l t n x z e h))
-
-  pub numbers-limit : k ≡ 6 → hasOperator x z ≡ true → negatedNumbers 6 l t n 2 (extraOperand (negatedExtra (operatorOf z))) ≡ negationNumbers (negationOf (constraintOf k l t n x z))
-  unfolding kindOf
-  numbers-limit e h = sym (ap negationNumbers (negation-limit k l t n x z e h) ∙ rw (case-is t n, operand-is t n, negated-case-is x z h))
-
-  pub numbers-else : (k ≡ 6 → ⊥) → negatedNumbers (kindNumber (negatedKind (kindOf k))) l t n (cond (hasExtra x z) x 0) (cond (hasExtra x z) z (pos 0)) ≡ negationNumbers (negationOf (constraintOf k l t n x z))
-  numbers-else h = sym (ap negationNumbers (negation-else k l t n x z h) ∙ rw (case-is t n, operand-is t n, extra-case-is x z, extra-operand-is x z))

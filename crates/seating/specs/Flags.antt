@@ -6,17 +6,18 @@ use mathlib.Core.Path.{_≡_, ap}
 use mathlib.Core.List.{List, [], _∷_, _++_}
 use native.Mathlib.Omega.{arith}
 use lib.ListN.{length, getD}
-use Rattle.counting.specs.Fold.{tableTo, fold-ext}
+use Rattle.counting.specs.Fold.{tableTo}
+use Rattle.counting.specs.FoldLaws.{fold-ext}
 use Rattle.input_data.specs.Bytes.{wordAt, optionalIn, minIn, maxIn, groupLengthIn, memberIn, numbersIn, listIn, dayOf}
 
 -- days that agree in every byte but for what a set flag byte is
-pub record Alike (a b : List ℕ) : Type 0 where
+pub record DayAlike (a b : List ℕ) : Type 0 where
   pub long : length a ≡ length b
   pub front : (i : ℕ) → i < 284 → getD a i 0 ≡ getD b i 0
   pub flags : (k : ℕ) → k < 32 → optionalIn a k ≡ optionalIn b k
   pub back : (i : ℕ) → 316 ≤ i → getD a i 0 ≡ getD b i 0
 
-module _ {a b : List ℕ} (e : Alike a b) where
+module _ {a b : List ℕ} (e : DayAlike a b) where
   word-front : (at : ℕ) → at + 4 ≤ 284 → wordAt a at ≡ wordAt b at
   unfolding wordAt
   word-front at h = rw (e .front at (omega arith), e .front (at + 1) (omega arith), e .front (at + 2) (omega arith), e .front (at + 3) (omega arith))

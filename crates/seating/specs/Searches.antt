@@ -2,8 +2,8 @@
 use Prim.Native.Nat.{ℕ}
 use mathlib.Core.Bool.{cond}
 use lib.Dec.{eqb}
-use Rattle.assignment_solver.specs.declared.LimitSolveResult.{LimitSolveResult}
-use Rattle.assignment_solver.specs.declared.LimitSolveResult.the-variants.{Feasible, Infeasible, Incomplete}
+use Rattle.preference_search.specs.declared.LimitSolveResult.{LimitSolveResult}
+use Rattle.preference_search.specs.declared.LimitSolveResult.the-variants.{Feasible, Infeasible, Incomplete}
 
 -- 0 feasible, 1 infeasible; a number that is no result reads as incomplete, which claims nothing
 abbrev pub resultOf : ℕ → LimitSolveResult

@@ -8,8 +8,8 @@ use Rattle.input_data.specs.Bytes.{flagOf}
 use Rattle.input_data.specs.Lengths.{fullDay}
 use Rattle.scoring.specs.Calls.{evaluateLent}
 use Rattle.scoring.specs.declared.ScoreAnswer.{ScoreAnswer}
-use Rattle.scoring.specs.declared.Solution.{Solution}
-use Rattle.scoring.specs.declared.Solution.the-variants as Solution
+use Rattle.scoring.specs.declared.solution.Solution.{Solution}
+use Rattle.scoring.specs.declared.solution.Solution.the-variants as Solution
 use Rattle.seating.specs.Scores.{scoreBits}
 use Rattle.seating.specs.declared.verdicts.ScoreBitsAnswer.{ScoreBitsAnswer}
 

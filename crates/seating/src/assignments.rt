@@ -1,11 +1,12 @@
 // The entries over plans.
 use assignment::ChoiceAnswer;
 use assignment::InChoiceAnswer;
-use assignment::RosterAnswer;
+use rosters::RosterAnswer;
 ghost use mathlib.Core.Path.{_≡_};
 ghost use Rattle.counting.specs.Lent.{old, new};
 ghost use Rattle.input_data.specs.Lengths.{fullDay};
-ghost use Rattle.assignment.specs.Calls.{ChoosersOrdered, ChoicesOrdered, inChoiceLent, choiceLent};
+ghost use Rattle.assignment.specs.Calls.{inChoiceLent, choiceLent};
+ghost use Rattle.rosters.specs.Calls.{ChoosersOrdered, ChoicesOrdered};
 
 #[no_mangle]
 pub extern "C" fn cendravoka_choosers_ordered(
@@ -16,7 +17,7 @@ pub extern "C" fn cendravoka_choosers_ordered(
 ) -> RosterAnswer
     ensures { λ r. ⌜ ChoosersOrdered fullDay (old day) (old plan) choice (old roster) (new roster) r ⌝ }
 {
-    assignment::choosers_ordered(day, plan, choice, roster)
+    rosters::choosers_ordered(day, plan, choice, roster)
 }
 
 #[no_mangle]
@@ -28,7 +29,7 @@ pub extern "C" fn cendravoka_choices_ordered(
 ) -> RosterAnswer
     ensures { λ r. ⌜ ChoicesOrdered fullDay (old day) (old plan) chooser (old roster) (new roster) r ⌝ }
 {
-    assignment::choices_ordered(day, plan, chooser, roster)
+    rosters::choices_ordered(day, plan, chooser, roster)
 }
 
 #[no_mangle]

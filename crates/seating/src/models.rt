@@ -1,8 +1,10 @@
 // The entries that build a model and check values against it.
-use solve_with_limit::ModelAnswer;
+use model_buffers::ModelAnswer;
 ghost use Rattle.counting.specs.Lent.{old, new};
 ghost use Rattle.input_data.specs.Lengths.{fullDay};
-ghost use Rattle.solve_with_limit.specs.Calls.{buffers, lentInput, ModelLent, ValuesLent};
+ghost use Rattle.model_buffers.specs.Buffers.{buffers};
+ghost use Rattle.flow_model.specs.Lent.{lentInput};
+ghost use Rattle.flow_model.specs.Calls.{ModelLent, ValuesLent};
 
 #[no_mangle]
 pub extern "C" fn cendravoka_model(

@@ -6,7 +6,8 @@ ghost use mathlib.Core.Path.{_≡_};
 ghost use Rattle.counting.specs.Lent.{old};
 ghost use Rattle.score.specs.Order.{infiniteTwice, finiteScore, scoreOrder, orderNumber};
 ghost use Rattle.score.specs.Listed.{bestIn};
-ghost use Rattle.seating.specs.Scores.{score, scoreBits, refusedBits, bestBits, Near};
+ghost use Rattle.seating.specs.Scores.{score, scoreBits, refusedBits, bestBits};
+ghost use Rattle.seating.specs.ScoresLaws.{Near};
 
 #[repr(C)]
 pub struct ScoreBits {

@@ -1,11 +1,11 @@
 // The entries over the preference search.
-use assignment_solver::LimitSolveResult;
-use assignment_solver::SearchAnswer;
+use preference_search::LimitSolveResult;
+use preference_search::SearchAnswer;
 ghost use mathlib.Core.Path.{_≡_};
 ghost use Rattle.counting.specs.Lent.{old};
 ghost use Rattle.input_data.specs.Bytes.{flagOf};
 ghost use Rattle.input_data.specs.Lengths.{fullDay};
-ghost use Rattle.assignment_solver.specs.Search.{told};
+ghost use Rattle.preference_search.specs.Search.{told};
 ghost use Rattle.assignment_solver.specs.Calls.{beginLent, tellLent};
 ghost use Rattle.seating.specs.Searches.{resultOf};
 

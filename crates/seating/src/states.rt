@@ -10,7 +10,7 @@ ghost use Rattle.schedule_state.specs.Calls.{Built, Updated, slotListAnswer};
 pub extern "C" fn cendravoka_build(day: &[u8], schedule: &[u8], lists: &mut [u8]) -> StateAnswer
     ensures { λ r. ⌜ Built fullDay (old day) (old schedule) (old lists) (new lists) r ⌝ }
 {
-    schedule_state::build(day, schedule, lists)
+    schedule_updates::build(day, schedule, lists)
 }
 
 #[no_mangle]
@@ -22,7 +22,7 @@ pub extern "C" fn cendravoka_update(
 ) -> StateAnswer
     ensures { λ r. ⌜ Updated fullDay (old day) (old state) (old schedule) (old lists) (new lists) r ⌝ }
 {
-    schedule_state::update(day, state, schedule, lists)
+    schedule_updates::update(day, state, schedule, lists)
 }
 
 // Where a slot's list stands in the lent buffer: a part of it cannot be returned to C.
@@ -35,5 +35,5 @@ pub extern "C" fn cendravoka_slot_list(
 ) -> SlotListAnswer
     ensures { λ r. ⌜ r ≡ slotListAnswer fullDay (old day) (old state) slot (old lists) ⌝ }
 {
-    schedule_state::slot_list_answer(day, state, lists, slot)
+    schedule_updates::slot_list_answer(day, state, lists, slot)
 }

@@ -8,15 +8,18 @@ use lib.Dec.{eqb}
 use lib.ListN.{length, getD, set, length-set, replicate, getD-replicate}
 use lib.Seq.{getD-set-same, getD-set-other}
 use borrow.Author.Tests.{eq-eqb, ne-eqb, eqb-true, not-false}
-use Rattle.counting.specs.Fold.{foldTo, anyTo, fold-none, fold-suc, fold-more, fold-ext}
-use Rattle.counting.specs.Holds.{holds-all}
-use Rattle.counting.specs.Search.{first-found}
+use Rattle.counting.specs.Fold.{foldTo, anyTo}
+use Rattle.counting.specs.FoldLaws.{fold-none, fold-suc, fold-more, fold-ext}
+use Rattle.counting.specs.HoldsLaws.{holds-all}
+use Rattle.counting.specs.SearchLaws.{first-found}
 use Rattle.counting.specs.Sums.{count-le}
 use Rattle.counting.specs.Tests.{bool-cases, eq-cases, never, none-each, each-none, some-passes}
 use Rattle.scheduling.specs.Schedule.{entryAt}
-use Rattle.slot_lists.specs.Held.{Held, misheld, held, not-misheld, holds-any, times-found, member, member-is, member-out, member-count}
+use Rattle.slot_lists.specs.HeldLaws.{Held, held, not-misheld, holds-any, times-found, member, member-is, member-out, member-count}
+use Rattle.slot_lists.specs.Held.{misheld}
 use Rattle.slot_lists.specs.Lists.{listed, isListed}
-use Rattle.slot_lists.specs.Sums.{Sums, one, inSlot, weighed}
+use Rattle.slot_lists.specs.SumsLaws.{Sums}
+use Rattle.slot_lists.specs.Sums.{one, inSlot, weighed}
 
 -- choice k stands in the list of slot s
 abbrev pub standsIn : ℕ → (ℕ → ℕ) → List ℕ → ℕ → ℕ → Bool
@@ -26,12 +29,12 @@ abbrev pub mark : ℕ → (ℕ → ℕ) → List ℕ → ℕ → ℕ → ℕ →
 mark stride len l k e s = cond (standsIn stride len l k s) (suc s) e
 
 -- the entry of the last slot below s in whose list choice k stands, or 0
-unfoldable pub marked : ℕ → (ℕ → ℕ) → List ℕ → ℕ → ℕ → ℕ
-marked stride len l k s = foldTo (mark stride len l k) 0 s (λ t. t)
+unfoldable pub markedBy : ℕ → (ℕ → ℕ) → List ℕ → ℕ → ℕ → ℕ
+markedBy stride len l k s = foldTo (mark stride len l k) 0 s (λ t. t)
 
 -- some choice's mark is not its entry
 abbrev pub strayAt : ℕ → (ℕ → ℕ) → (ℕ → ℕ) → ℕ → List ℕ → ℕ → Bool
-strayAt stride len f slots l k = not (eqb (marked stride len l k slots) (f k))
+strayAt stride len f slots l k = not (eqb (markedBy stride len l k slots) (f k))
 
 -- .. of marks that an array holds
 abbrev pub unmarkedAt : List ℕ → (ℕ → ℕ) → ℕ → Bool
@@ -49,31 +52,31 @@ pub record Looks (stride n slots : ℕ) (entries : List ℕ) (size : ℕ) (a : L
 -- ---- laws
 
 module _ (stride : ℕ) (len : ℕ → ℕ) (l : List ℕ) (k : ℕ) where
-  pub marked-none : marked stride len l k 0 ≡ 0
-  unfolding marked
+  pub marked-none : markedBy stride len l k 0 ≡ 0
+  unfolding markedBy
   marked-none = fold-none (mark stride len l k) 0 (λ t. t)
 
-  pub marked-more : (s : ℕ) → marked stride len l k (s + 1) ≡ mark stride len l k (marked stride len l k s) s
-  unfolding marked
+  pub marked-more : (s : ℕ) → markedBy stride len l k (s + 1) ≡ mark stride len l k (markedBy stride len l k s) s
+  unfolding markedBy
   marked-more s = fold-more (mark stride len l k) 0 s (λ t. t)
 
-  marked-suc : (s : ℕ) → marked stride len l k (suc s) ≡ mark stride len l k (marked stride len l k s) s
-  unfolding marked
+  marked-suc : (s : ℕ) → markedBy stride len l k (suc s) ≡ mark stride len l k (markedBy stride len l k s) s
+  unfolding markedBy
   marked-suc s = fold-suc (mark stride len l k) 0 s (λ t. t)
 
   -- a choice that is marked stands in the list
-  marked-found : (s t : ℕ) → marked stride len l k s ≡ suc t → standsIn stride len l k t ≡ true
+  marked-found : (s t : ℕ) → markedBy stride len l k s ≡ suc t → standsIn stride len l k t ≡ true
   marked-found zero t e = absurd (omega (arith, marked-none))
   marked-found (suc s) t e = bool-cases (standsIn stride len l k s)
       (λ b. let q : suc s ≡ suc t = (rw b at (sym (marked-suc s))) ∙ e in let r : s ≡ t = omega arith in rw (← r) b)
       (λ b. marked-found s t ((rw b at (sym (marked-suc s))) ∙ e))
 
   -- where choice k stands in the list of entry e and in no other, that is its mark
-  marked-only : (e slots : ℕ) → ((s : ℕ) → s < slots → standsIn stride len l k s ≡ eqb e (suc s)) → (s : ℕ) → s ≤ slots → (e ≤ s → marked stride len l k s ≡ e) × (s < e → marked stride len l k s ≡ 0)
+  marked-only : (e slots : ℕ) → ((s : ℕ) → s < slots → standsIn stride len l k s ≡ eqb e (suc s)) → (s : ℕ) → s ≤ slots → (e ≤ s → markedBy stride len l k s ≡ e) × (s < e → markedBy stride len l k s ≡ 0)
   marked-only e slots h zero b = (λ c. marked-none ∙ omega arith, λ c. marked-none)
   marked-only e slots h (suc s) b =
       let p = marked-only e slots h s (omega arith) in
-      let q : marked stride len l k (suc s) ≡ cond (eqb e (suc s)) (suc s) (marked stride len l k s) = marked-suc s ∙ rw (h s (omega arith)) in
+      let q : markedBy stride len l k (suc s) ≡ cond (eqb e (suc s)) (suc s) (markedBy stride len l k s) = marked-suc s ∙ rw (h s (omega arith)) in
       eq-cases e (suc s)
       (λ u v. (λ c. q ∙ rw v (sym u), λ c. absurd (omega arith)))
       (λ u v. (λ c. q ∙ rw v (p .0 (omega arith)), λ c. q ∙ rw v (p .1 (omega arith))))
@@ -86,7 +89,7 @@ module _ (stride : ℕ) (f : ℕ → ℕ) (n slots : ℕ) (l : List ℕ) (fit : 
   stray-held : anyTo n (strayAt stride len f slots l) ≡ false → Held stride f n slots l
   stray-held e = record {
     at = λ s b. holds-all (len s) n (listed stride l s) (member f n s) (member-count f n s)
-        (λ k c q. let m : marked stride len l k slots ≡ suc s = eqb-true _ _ (not-false _ (none-each n (strayAt stride len f slots l) e k c)) ∙ eqb-true (f k) (suc s) (sym (member-is f n s k c) ∙ q) in
+        (λ k c q. let m : markedBy stride len l k slots ≡ suc s = eqb-true _ _ (not-false _ (none-each n (strayAt stride len f slots l) e k c)) ∙ eqb-true (f k) (suc s) (sym (member-is f n s k c) ∙ q) in
         let j = some-passes (len s) (isListed stride l s k) (marked-found stride len l k slots s m) in
         times-found (len s) (listed stride l s) k (first-found (len s) (isListed stride l s k) (j .at) (j .below) (j .holds)))
         (λ k c. member-out f n s k c);
@@ -96,7 +99,7 @@ module _ (stride : ℕ) (f : ℕ → ℕ) (n slots : ℕ) (l : List ℕ) (fit : 
   held-stray : Held stride f n slots l → (k : ℕ) → k < n → strayAt stride len f slots l k ≡ false
   held-stray h k c = ap not (eq-eqb _ _ (marked-only stride len l k (f k) slots (λ s b. holds-any (h .at s b) k ∙ member-is f n s k c) slots (omega arith) .0 (fit k c)))
 
-  pub stray-is : anyTo n (strayAt stride len f slots l) ≡ misheld stride f n slots l
+  stray-is : anyTo n (strayAt stride len f slots l) ≡ misheld stride f n slots l
   stray-is = bool-cases (misheld stride f n slots l)
       (λ e. bool-cases (anyTo n (strayAt stride len f slots l)) (λ t. t ∙ sym e) (λ t. never (sym e ∙ not-misheld stride f n slots l (stray-held t))))
       (λ e. each-none n (strayAt stride len f slots l) (held-stray (held stride f n slots l e)) ∙ sym e)
@@ -132,7 +135,7 @@ module _ (l : List ℕ) (start : ℕ) where
 -- the marks of the slots below s
 pub record Marks (stride : ℕ) (len : ℕ → ℕ) (l : List ℕ) (s : ℕ) (m : List ℕ) : Type 0 where
   pub long : length m ≡ 256
-  pub at : (k : ℕ) → k < 256 → getD m k 0 ≡ marked stride len l k s
+  pub at : (k : ℕ) → k < 256 → getD m k 0 ≡ markedBy stride len l k s
 
 pub marks-none : (stride : ℕ) (len : ℕ → ℕ) (l : List ℕ) → Marks stride len l 0 (replicate 256 0)
 marks-none stride len l = record { long = refl; at = λ k h. getD-replicate {A = ℕ} 256 k 0 0 h ∙ sym (marked-none stride len l k) }

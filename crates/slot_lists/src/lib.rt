@@ -1,18 +1,17 @@
-// assignment_solver.rs: a slot's list in its own part of the lent buffer, and the walk that carries
-// lists, lengths and covered counts from one schedule to the next. A fresh build is the walk from
-// the schedule in which no choice has a slot.
+// assignment_solver.rs: a slot's list in its own part of the lent buffer, the sums of a slot's choices,
+// and whether the lists hold a schedule.
 ghost use mathlib.Core.Path.{_≡_};
-ghost use Prim.Native.Nat.{_+_, _-_, _*_, _<_, _≤_};
+ghost use Prim.Native.Nat.{_+_, _*_, _<_, _≤_};
 ghost use lib.ListN.{length, set};
 ghost use Rattle.counting.specs.Fold.{anyTo};
 ghost use Rattle.counting.specs.Lent.{old, new};
 ghost use Rattle.scheduling.specs.Schedule.{entryAt};
 ghost use Rattle.counting.specs.Search.{firstTo};
-ghost use Rattle.slot_lists.specs.Lists.{isEntry, removed, leftBy};
-ghost use Rattle.slot_lists.specs.Sums.{added, Sums, Adds, Weighs, Unweighed, SlotSums};
+ghost use Rattle.slot_lists.specs.ListsLaws.{isEntry, removed};
+ghost use Rattle.slot_lists.specs.Lists.{leftBy};
+ghost use Rattle.slot_lists.specs.SumsLaws.{added, Sums, Adds, Weighs, Unweighed, SlotSums};
 ghost use Rattle.slot_lists.specs.Held.{misheld};
 ghost use Rattle.slot_lists.specs.Marks.{Looks, Noted, unmarkedAt};
-ghost use Rattle.slot_lists.specs.Walk.{Departs, Departed, Arrives, Arrived, Visits, Visited, Carries, Carried};
 
 // A choice joins a list of `len` entries at its end.
 fn append(part: &mut [u8], len: usize, choice: u8)
@@ -50,7 +49,7 @@ fn remove(part: &mut [u8], len: usize, choice: u8)
 }
 
 // The slot's part is lent on to `append`.
-fn enter(lists: &mut [u8], stride: usize, slot: usize, len: usize, choice: u8)
+pub fn enter(lists: &mut [u8], stride: usize, slot: usize, len: usize, choice: u8)
     requires { ⌜ (len < stride) × (stride * slot + stride ≤ length (now lists)) ⌝ }
     ensures { λ _. ⌜ new lists ≡ set (old lists) (stride * slot + len) choice ⌝ }
 {
@@ -60,80 +59,13 @@ fn enter(lists: &mut [u8], stride: usize, slot: usize, len: usize, choice: u8)
 }
 
 // The slot's part is lent on to `remove`.
-fn leave(lists: &mut [u8], stride: usize, slot: usize, len: usize, choice: u8)
+pub fn leave(lists: &mut [u8], stride: usize, slot: usize, len: usize, choice: u8)
     requires { ⌜ (len ≤ stride) × (stride * slot + stride ≤ length (now lists)) ⌝ }
     ensures { λ _. ⌜ new lists ≡ leftBy stride slot len choice (old lists) ⌝ }
 {
     let a = stride * slot;
     let e = a + stride;
     remove(&mut lists[a..e], len, choice);
-}
-
-// A choice leaves the list of the slot that its entry names, and that slot's sums.
-fn depart(
-    lists: &mut [u8],
-    lens: &mut [u32; 8],
-    covered: &mut [u32; 8],
-    stride: usize,
-    entry: u8,
-    choice: u8,
-    min: u32,
-)
-    requires { ⌜ Departs stride entry min (length (now lists)) (now lens) (now covered) ⌝ }
-    ensures { λ _. ⌜ Departed stride entry choice min (old lists) (old lens) (old covered) (new lists) (new lens) (new covered) ⌝ }
-{
-    if entry == 0 {
-        return;
-    }
-    let slot = entry as usize - 1;
-    let len = lens[slot];
-    leave(lists, stride, slot, len as usize, choice);
-    lens[slot] = len - 1;
-    covered[slot] = covered[slot] - min;
-}
-
-// A choice joins the list of the slot that its entry names, and that slot's sums.
-fn arrive(
-    lists: &mut [u8],
-    lens: &mut [u32; 8],
-    covered: &mut [u32; 8],
-    stride: usize,
-    entry: u8,
-    choice: u8,
-    min: u32,
-)
-    requires { ⌜ Arrives stride entry min (length (now lists)) (now lens) (now covered) ⌝ }
-    ensures { λ _. ⌜ Arrived stride entry choice min (old lists) (old lens) (old covered) (new lists) (new lens) (new covered) ⌝ }
-{
-    if entry == 0 {
-        return;
-    }
-    let slot = entry as usize - 1;
-    let len = lens[slot];
-    enter(lists, stride, slot, len as usize, choice);
-    lens[slot] = len + 1;
-    covered[slot] = covered[slot] + min;
-}
-
-// A visit of one choice: nothing where old and new slot agree.
-fn visit(
-    lists: &mut [u8],
-    lens: &mut [u32; 8],
-    covered: &mut [u32; 8],
-    stride: usize,
-    last: u8,
-    next: u8,
-    choice: u8,
-    min: u32,
-)
-    requires { ⌜ Visits stride last next min (length (now lists)) (now lens) (now covered) ⌝ }
-    ensures { λ _. ⌜ Visited stride last next choice min (old lists) (old lens) (old covered) (new lists) (new lens) (new covered) ⌝ }
-{
-    if last == next {
-        return;
-    }
-    depart(lists, lens, covered, stride, last, choice, min);
-    arrive(lists, lens, covered, stride, next, choice, min);
 }
 
 // Adds a weight to the sum of the slot that an entry names.
@@ -177,36 +109,6 @@ pub fn weigh(
     while i < n {
         add(lens, entries[i], 1);
         add(covered, entries[i], mins[i]);
-        i += 1;
-    }
-}
-
-// The walk: every choice is visited, upward.
-pub fn carry<'a>(
-    lists: &mut [u8],
-    lens: &mut [u32; 8],
-    covered: &mut [u32; 8],
-    stride: usize,
-    n: usize,
-    last: &'a [u8; 32],
-    next: &'a [u8; 32],
-    mins: &'a [u32; 32],
-)
-    requires { ⌜ Carries stride n (now last) (now next) (now mins) (length (now lists)) (now lens) (now covered) ⌝ }
-    ensures { λ _. ⌜ Carried stride n (old last) (old next) (old mins) (old lists) (new lists) (new covered) ⌝ }
-{
-    let mut i = 0;
-    while i < n {
-        visit(
-            lists,
-            lens,
-            covered,
-            stride,
-            last[i],
-            next[i],
-            i as u8,
-            mins[i],
-        );
         i += 1;
     }
 }

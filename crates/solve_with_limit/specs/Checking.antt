@@ -1,90 +1,57 @@
--- Values held against the finished model in the lent buffers. Definitions and their laws.
+-- Values held against the finished model in the lent buffers: what the check and the decoding ask holds, and they say what the model says. Assumes nothing.
 use Prim.Native.Nat.{ℕ, zero, suc, _+_, _-_, _*_, _≤_, _<_}
 use mathlib.Core.Path.{_≡_, refl, sym, ap, ap₂, _∙_}
-use mathlib.Core.Bool.{Bool, true, false, cond, not, _||_}
+use mathlib.Core.Bool.{Bool, false, cond, not, _||_}
 use mathlib.Core.List.{List, [], _++_}
-use native.Mathlib.Nat.{mul-le-mul, add-sub-cancel}
+use native.Mathlib.Nat.{mul-le-mul}
 use native.Mathlib.Omega.{arith}
 use lib.Dec.{eqb, ltb}
 use lib.IntN.{ℤ, pos, _-ℤ_, _+ℤ_}
 use lib.ListN.{length, getD, take, drop, length-append}
 use lib.Seq.{ext-getD}
-use lib.Signed.{mag, nonNeg}
 use borrow.Author.Tests.{ltb-false, ne-eqb}
-use Rattle.counting.specs.Fold.{anyTo, fold-ext, tableTo}
+use Rattle.counting.specs.Fold.{anyTo, tableTo}
+use Rattle.counting.specs.FoldLaws.{fold-ext}
 use Rattle.counting.specs.Ints.{eqZ}
 use Rattle.counting.specs.Lists.{length-table}
 use Rattle.counting.specs.Sums.{grid-lt}
-use Rattle.counting.specs.Tests.{eq-cases, lt-cases, or-split}
-use Rattle.counting.specs.Written.{written, written-at, written-is, length-written}
-use Rattle.input_data.specs.Checks.{firstOf}
+use Rattle.counting.specs.Tests.{lt-cases, or-split}
+use Rattle.counting.specs.Written.{written}
+use Rattle.counting.specs.WrittenLaws.{written-at, length-written}
+use Rattle.input_data.specs.Bytes.{IsDay, lentNumber}
 use Rattle.input_data.specs.Lengths.{Within, edgesLength, suppliesLength, planLength}
 use Rattle.input_data.specs.declared.Limits.{Limits}
 use Rattle.scheduling.specs.Schedule.{entryAt}
+use Rattle.schedule_state.specs.Bytes.{notState}
 use Rattle.schedule_state.specs.Good.{choosers-most, choices-most, slots-most, part-in}
 use Rattle.mip_flow_static_data.specs.Nodes.{nodeCount, chooserSupply, choiceSupply, slotSupply, supplies}
-use Rattle.mip_flow.specs.declared.Lengths.{Lengths}
-use Rattle.edge_groups.specs.Groups.{flat, endsFrom, groupsOf, blockedOf}
+use Rattle.model_buffers.specs.Buffers.{Buffers, buffers, lengthsOf}
+use Rattle.model_buffers.specs.Lengths.{shortValues}
+use Rattle.model_buffers.specs.declared.Counts.{Counts}
+use Rattle.model_buffers.specs.declared.Lengths.{Lengths}
+use Rattle.edge_groups.specs.Groups.{flat, endsFrom}
 use Rattle.edge_groups.specs.Laws.{entries-there, blocked-there, groupStart, groupEnd, ends-ascend, end-within, group-read}
 use Rattle.edge_groups.specs.Stored.{ends-length}
 use Rattle.edge_groups.specs.Bounds.{Few, names-few, stored-most}
-use Rattle.mip_flow.specs.Index.{edgeOf, numberAt}
-use Rattle.slot_lists.specs.Lists.{part-length, part-at}
-use Rattle.edge_values.specs.Values.{valueAt, outside, outsideAt, someOutside, usedAt, someUsed, isUneven, unevenAt, someUneven, flowAt, flow, unbalancedAt, someUnbalanced, Network, valuesNumber}
-use Rattle.edge_values.specs.Checks.{Bounded, Naming, Grouped, startAt, partOf, unevenPart, inside-each}
-use Rattle.edge_values.specs.Balance.{Balancing}
-use Rattle.edge_values.specs.Decode.{decoded}
-use Rattle.edge_values.specs.Decoding.{Decoding}
+use Rattle.mip_flow.specs.Index.{edgeOf}
+use Rattle.mip_flow.specs.IndexLaws.{numberAt}
+use Rattle.slot_lists.specs.ListsLaws.{part-length, part-at}
+use Rattle.edge_values.specs.Values.{valueAt, outOfBounds, outsideAt, someOutside, usedAt, someUsed, isUneven, unevenAt, someUneven, flowAt, flow, unbalancedAt, someUnbalanced, Network, valuesNumber}
+use Rattle.edge_values.specs.Checks.{startAt, partOf, unevenPart}
+use Rattle.edge_values.specs.Number.{bufferNumber, costless, Checkable}
+use Rattle.decoding.specs.Decode.{decoded}
+use Rattle.decoding.specs.Decoding.{Decoding}
 use Rattle.plans.specs.Decode.{found}
-use Rattle.solve_with_limit.specs.Alike.{first-same, decoded-same}
+use Rattle.flow_model.specs.Alike.{first-same, decoded-same}
 use Rattle.plans.specs.Flow.{Present, present-true, fromOf, toOf, capOf}
 use Rattle.plans.specs.Good.{Good, good}
-use Rattle.plans.specs.Model.{ModelInput, sizesOf, scheduleOf, countOf, listOf, seatsOf, choicesOf, namesOf, networkOf, planOf, numberWith, shortValues, enterNumber}
+use Rattle.plans.specs.Model.{ModelInput, sizesOf, entriesOf, countOf, listOf, seatsOf, choicesOf, namesOf, networkOf, planOf, numberWith, enterNumber}
 use Rattle.plans.specs.Pairs.{pairs-in}
 use Rattle.plans.specs.SeatPairs.{frameOf, edgeCount, rowAt, itemAt, model-edges, edges-room, from-length, maps-length}
-use Rattle.solve_with_limit.specs.Building.{Lent, lent, Long, ModelMade, counts-all, members-are, listed-below, count-most}
-use Rattle.solve_with_limit.specs.Calls.{Buffers, buffers, lengthsOf, built}
-use Rattle.solve_with_limit.specs.declared.Counts.{Counts}
-
--- the first of 14 to 17 that applies, as the buffers say the model
-unfoldable pub bufferNumber : ℕ → Counts → Buffers → List ℤ → ℕ
-bufferNumber nodes k b vs =
-    firstOf (someOutside (k .edges) (b .max) vs) 14
-    (firstOf (someUsed (k .blocked) (b .blocked) vs) 15
-    (firstOf (anyTo (k .groups) (unevenPart vs (b .entries) (b .ends))) 16
-    (firstOf (someUnbalanced nodes (k .edges) (b .from) (b .to) (b .supplies) vs) 17 0)))
-
--- the buffers without the costs, which no check reads
-abbrev pub costless : Buffers → Buffers
-costless b = buffers (b .supplies) (b .from) (b .to) (b .max) [] (b .entries) (b .ends) (b .blocked)
-
--- what the check asks of the buffers
-pub record Checkable (nodes : ℕ) (k : Counts) (b : Buffers) (size : ℕ) : Type 0 where
-  pub bounded : Bounded (k .edges) (b .max) size
-  pub blocked : Naming (k .blocked) (b .blocked) size
-  pub grouped : Grouped (k .groups) (b .entries) (b .ends) size
-  pub few-nodes : nodes ≤ 552
-  pub few-edges : k .edges ≤ 2080
-  pub from-long : k .edges ≤ length (b .from)
-  pub to-long : k .edges ≤ length (b .to)
-  pub supplies-long : nodes ≤ length (b .supplies)
-  pub from-node : (e : ℕ) → e < k .edges → getD (b .from) e 0 < 552
-  pub to-node : (e : ℕ) → e < k .edges → getD (b .to) e 0 < 552
-
--- 17 can be looked at once 14 passed
-pub balancing : {nodes : ℕ} {k : Counts} {b : Buffers} {vs : List ℤ} → Checkable nodes k b (length vs) → someOutside (k .edges) (b .max) vs ≡ false → Balancing nodes (k .edges) (b .from) (b .to) (b .supplies) vs
-balancing {k = k} {b = b} {vs = vs} h e = record {
-  few-nodes = h .few-nodes;
-  few-edges = h .few-edges;
-  from-long = h .from-long;
-  to-long = h .to-long;
-  supplies-long = h .supplies-long;
-  values-long = h .bounded .values-long;
-  from-node = h .from-node;
-  to-node = h .to-node;
-  sign = λ i l. inside-each (k .edges) (b .max) vs e i l .0;
-  small = λ i l. omega (arith, inside-each (k .edges) (b .max) vs e i l .1, h .bounded .light i l);
-}
+use Rattle.flow_model.specs.Building.{Lent, lent, counts-all, members-are, listed-below, count-most}
+use Rattle.flow_model.specs.Entering.{input-lent}
+use Rattle.flow_model.specs.Lent.{withModel, ModelMade, EnteredWith}
+use Rattle.flow_model.specs.declared.Entered.{Entered}
 
 -- ---- what the model's edges are
 
@@ -110,7 +77,7 @@ module _ (l : Limits) (x : ModelInput) (g : Good l x) (i : ℕ) (h : i < edgeCou
       let p = there in
       let s = g .fits (itemAt l x i) (p .item) in
       rw (model-edges l x g .from-is i h) (lt-cases (rowAt l x i) C
-      (λ b e. rw e (omega (arith, few, grid-lt {m = S} {b = entryAt (scheduleOf x) (itemAt l x i) - 1} b (omega (arith, s, p .placed)))))
+      (λ b e. rw e (omega (arith, few, grid-lt {m = S} {b = entryAt (entriesOf x) (itemAt l x i) - 1} b (omega (arith, s, p .placed)))))
       (λ b e. rw e (omega (arith, few, p .item, choices-most (g .ready)))))
 
   pub to-below : getD (networkOf l x .to) i 0 < 552
@@ -135,9 +102,9 @@ unfolding networkOf supplies
 supplies-length l x =
     let z = sizesOf l (x .day) in
     let xs = tableTo (z .choosers * z .slots) chooserSupply in
-    let ys = tableTo (z .choices) (choiceSupply (scheduleOf x) (x .day .mins)) in
+    let ys = tableTo (z .choices) (choiceSupply (entriesOf x) (x .day .mins)) in
     let zs = tableTo (z .slots) (slotSupply z (x .state .covered)) in
-    omega (arith, length-append (xs ++ ys) zs, length-append xs ys, length-table (z .choosers * z .slots) chooserSupply, length-table (z .choices) (choiceSupply (scheduleOf x) (x .day .mins)), length-table (z .slots) (slotSupply z (x .state .covered)))
+    omega (arith, length-append (xs ++ ys) zs, length-append xs ys, length-table (z .choosers * z .slots) chooserSupply, length-table (z .choices) (choiceSupply (entriesOf x) (x .day .mins)), length-table (z .slots) (slotSupply z (x .state .covered)))
 
 module _ {l : Limits} {x : ModelInput} (g : Good l x) where
   -- the four tables have one length
@@ -152,7 +119,7 @@ module _ {l : Limits} {x : ModelInput} (g : Good l x) where
   -- what the groups and the blocked list use: document 01's lengths are enough
   few-names : Few (namesOf l x) 4096 2048
   unfolding namesOf
-  few-names = names-few (edgeOf (seatsOf l x)) (sizesOf l (x .day)) (scheduleOf x) (countOf x) (listOf l x) (x .day .assignment) (x .day .groups) (x .day .lengths) (x .day .members)
+  few-names = names-few (edgeOf (seatsOf l x)) (sizesOf l (x .day)) (entriesOf x) (countOf x) (listOf l x) (x .day .assignment) (x .day .groups) (x .day .lengths) (x .day .members)
       (omega (arith, counts-all g, choices-most (g .ready))) (g .ready .day .assignment .count) (choosers-most (g .ready)) (g .ready .day .groups) (omega (arith, members-are g, g .ready .day .members))
 
   pub groups-fit : (length (flat (networkOf l x .groups)) ≤ 4096) × (length (networkOf l x .groups) ≤ 2048) × (length (networkOf l x .blocked) ≤ 4096)
@@ -180,34 +147,34 @@ module _ {l : Limits} {x : ModelInput} (g : Good l x) {b b′ : Buffers} {index 
   edges-few = edges-room l x g
 
   max-at : (i : ℕ) → i < length (net .from) → getD (b′ .max) i 0 ≡ getD (net .max) i 0
-  unfolding built
+  unfolding withModel
   max-at i h = ap (λ (y : Buffers). getD (y .max) i 0) (m .buffers) ∙ written-at (b .max) (net .max) 0 i (omega (arith, edges-few, max-length g, t .long .max)) (omega (arith, from-length l x g, max-length g))
 
   from-at : (i : ℕ) → i < length (net .from) → getD (b′ .from) i 0 ≡ getD (net .from) i 0
-  unfolding built
+  unfolding withModel
   from-at i h = ap (λ (y : Buffers). getD (y .from) i 0) (m .buffers) ∙ written-at (b .from) (net .from) 0 i (omega (arith, edges-few, from-length l x g, t .long .from)) h
 
   to-at : (i : ℕ) → i < length (net .from) → getD (b′ .to) i 0 ≡ getD (net .to) i 0
-  unfolding built
+  unfolding withModel
   to-at i h = ap (λ (y : Buffers). getD (y .to) i 0) (m .buffers) ∙ written-at (b .to) (net .to) 0 i (omega (arith, edges-few, to-length g, t .long .to)) (omega (arith, from-length l x g, to-length g))
 
   nodes-few : nodeCount (sizesOf l (x .day)) ≤ suppliesLength l
   nodes-few = omega (arith, mul-le-mul (g .ready .day .choosers) (g .ready .day .slots), g .ready .day .choices, g .ready .day .slots)
 
   supply-at : (i : ℕ) → i < length (net .supplies) → getD (b′ .supplies) i (pos 0) ≡ getD (net .supplies) i (pos 0)
-  unfolding built
+  unfolding withModel
   supply-at i h = ap (λ (y : Buffers). getD (y .supplies) i (pos 0)) (m .buffers) ∙ written-at (b .supplies) (net .supplies) (pos 0) i (omega (arith, supplies-length l x, nodes-few, t .long .supplies)) h
 
   blocked-at : (i : ℕ) → i < length (net .blocked) → getD (b′ .blocked) i 0 ≡ getD (net .blocked) i 0
-  unfolding built
+  unfolding withModel
   blocked-at i h = ap (λ (y : Buffers). getD (y .blocked) i 0) (m .buffers) ∙ written-at (b .blocked) (net .blocked) 0 i (omega (arith, groups-fit g, t .long .blocked)) h
 
   entry-at : (i : ℕ) → i < length (flat gs) → getD (b′ .entries) i 0 ≡ getD (flat gs) i 0
-  unfolding built
+  unfolding withModel
   entry-at i h = ap (λ (y : Buffers). getD (y .entries) i 0) (m .buffers) ∙ written-at (b .entries) (flat gs) 0 i (omega (arith, groups-fit g, t .long .entries)) h
 
   end-at : (i : ℕ) → i < length gs → getD (b′ .ends) i 0 ≡ groupEnd gs i
-  unfolding built
+  unfolding withModel
   end-at i h = ap (λ (y : Buffers). getD (y .ends) i 0) (m .buffers) ∙ written-at (b .ends) (endsFrom 0 gs) 0 i (omega (arith, groups-fit g, ends-length 0 gs, t .long .ends)) (omega (arith, ends-length 0 gs))
 
   start-at : (i : ℕ) → i < length gs → startAt (b′ .ends) i ≡ groupStart gs i
@@ -218,7 +185,7 @@ module _ {l : Limits} {x : ModelInput} (g : Good l x) {b b′ : Buffers} {index 
       rw (ne-eqb (suc i) 0 (λ q. omega arith), e) (end-at i (omega arith))
 
   entries-long : length (b′ .entries) ≡ length (b .entries)
-  unfolding built
+  unfolding withModel
   entries-long = ap (λ (y : Buffers). length (y .entries)) (m .buffers) ∙ length-written (b .entries) 0 (flat gs)
 
   flat-long : length (flat gs) ≤ length (b′ .entries)
@@ -243,7 +210,7 @@ module _ {l : Limits} {x : ModelInput} (g : Good l x) {b b′ : Buffers} {index 
   unfolding bufferNumber valuesNumber someOutside someUsed someUneven someUnbalanced flow
   number-same =
       let n = length (net .from) in
-      let p14 : anyTo (k .edges) (outsideAt (b′ .max) vs) ≡ anyTo n (outsideAt (net .max) vs) = rw (m .edges) (fold-ext _||_ false n (outsideAt (b′ .max) vs) (outsideAt (net .max) vs) (λ i h. ap (λ v. outside (valueAt vs i) v) (max-at i h))) in
+      let p14 : anyTo (k .edges) (outsideAt (b′ .max) vs) ≡ anyTo n (outsideAt (net .max) vs) = rw (m .edges) (fold-ext _||_ false n (outsideAt (b′ .max) vs) (outsideAt (net .max) vs) (λ i h. ap (λ v. outOfBounds (valueAt vs i) v) (max-at i h))) in
       let p15 : anyTo (k .blocked) (usedAt (b′ .blocked) vs) ≡ anyTo (length (net .blocked)) (usedAt (net .blocked) vs) = rw (m .blocked) (fold-ext _||_ false (length (net .blocked)) (usedAt (b′ .blocked) vs) (usedAt (net .blocked) vs) (λ i h. ap (λ e. not (eqZ (valueAt vs e) (pos 0))) (blocked-at i h))) in
       let p16 : anyTo (k .groups) (unevenPart vs (b′ .entries) (b′ .ends)) ≡ anyTo (length gs) (unevenAt gs vs) = rw (m .groups) (fold-ext _||_ false (length gs) (unevenPart vs (b′ .entries) (b′ .ends)) (unevenAt gs vs) (λ i h. ap (isUneven vs) (part-same i h))) in
       let out : (v : ℕ) → flow (k .edges) (b′ .from) vs v ≡ flow n (net .from) vs v = (λ v. rw (m .edges) (fold-ext _+ℤ_ (pos 0) n (flowAt (b′ .from) vs v) (flowAt (net .from) vs v) (λ i h. ap (λ e. cond (eqb e v) (valueAt vs i) (pos 0)) (from-at i h)))) in
@@ -257,7 +224,7 @@ module _ {l : Limits} {x : ModelInput} (g : Good l x) {b b′ : Buffers} {index 
   seats-in = omega (arith, edges-few, long)
 
   pub checkable : Checkable (nodeCount (sizesOf l (x .day))) k (costless b′) (length vs)
-  unfolding built
+  unfolding withModel
   checkable = record {
     bounded = record {
       maxs-long = omega (arith, m .edges, from-length l x g, edges-few, t .long .max, ap (λ (y : Buffers). length (y .max)) (m .buffers) ∙ length-written (b .max) 0 (net .max));
@@ -317,17 +284,41 @@ module _ {l : Limits} {x : ModelInput} (g : Good l x) {b b′ : Buffers} {index 
   unfolding planOf
   plan-same = rw (m .lens, m .seats) (decoded-same (numberAt index) (edgeOf (seatsOf l x)) (m .numbers) (length (seatsOf l x)) vs (sizesOf l (x .day)) (countOf x) (listOf l x) (choosers-most (g .ready)) choice-small)
 
--- ---- what input satisfies that is not refused before values are looked at
+-- ---- a call that was not refused before values are looked at
 
-pub record Entered (l : Limits) (x : ModelInput) (lens : Lengths) (values plan : ℕ) : Type 0 where
-  pub number : numberWith l x lens (shortValues l values plan) ≡ 0
-  pub good : Good l x
-  pub lent : Lent l x lens (shortValues l values plan)
-  pub values-long : edgesLength l ≤ values
-  pub plan-long : planLength l ≤ plan
+module _ (l : Limits) (day st : List ℕ) {x : ModelInput} {b b′ : Buffers} {index : List ℕ} {e : Entered} (w : Within l) (vs : List ℤ) (size : ℕ)
+    (p : EnteredWith (lentNumber l day (notState st) (enterNumber l x (lengthsOf b) (length vs) size)) l x b b′ index e) (z : e .number ≡ 0) where
+  pub day-long : IsDay day
+  day-long = input-lent l day st (enterNumber l x (lengthsOf b) (length vs) size) (sym (p .number) ∙ z) .day
 
-pub entered : (l : Limits) (x : ModelInput) (lens : Lengths) (values plan : ℕ) → Within l → enterNumber l x lens values plan ≡ 0 → Entered l x lens values plan
-entered l x lens values plan w e =
-    let t = lent l x lens (shortValues l values plan) w e in
-    let p : (ltb values (edgesLength l) ≡ false) × (ltb plan (planLength l) ≡ false) = or-split (t .rest) in
-    record { number = e; good = good l x lens (shortValues l values plan) w e; lent = t; values-long = ltb-false _ _ (p .0); plan-long = ltb-false _ _ (p .1) }
+  abbrev short : Bool
+  short = shortValues l (length vs) size
+
+  zero-number : numberWith l x (lengthsOf b) short ≡ 0
+  zero-number = input-lent l day st (enterNumber l x (lengthsOf b) (length vs) size) (sym (p .number) ∙ z) .zero
+
+  is-good : Good l x
+  is-good = good l x (lengthsOf b) short w zero-number
+
+  is-lent : Lent l x (lengthsOf b) short
+  is-lent = lent l x (lengthsOf b) short w zero-number
+
+  long-enough : (edgesLength l ≤ length vs) × (planLength l ≤ size)
+  long-enough =
+      let q : (ltb (length vs) (edgesLength l) ≡ false) × (ltb size (planLength l) ≡ false) = or-split (is-lent .rest) in
+      (ltb-false _ _ (q .0), ltb-false _ _ (q .1))
+
+  -- the values can be checked ..
+  pub can-check : Checkable (nodeCount (sizesOf l (x .day))) (e .counts) (costless b′) (length vs)
+  can-check = checkable is-good is-lent (p .made z) vs (long-enough .0)
+
+  -- .. as the model says ..
+  pub check-says : {n : ℕ} → n ≡ bufferNumber (nodeCount (sizesOf l (x .day))) (e .counts) (costless b′) vs → n ≡ valuesNumber (networkOf l x) vs
+  check-says h = h ∙ number-same is-good is-lent (p .made z) vs (long-enough .0)
+
+  -- .. and decoded
+  pub can-decode : valuesNumber (networkOf l x) vs ≡ 0 → Decoding (e .counts .seats) (sizesOf l (x .day)) index (x .lists) (e .counts .lens) vs size
+  can-decode v = decodable is-good is-lent (p .made z) vs (long-enough .0) (lengthsOf b) w zero-number v size (long-enough .1)
+
+  pub decodes-to : (plan : List ℕ) {plan′ : List ℕ} → plan′ ≡ written plan 0 (decoded (e .counts .seats) vs (numberAt index) (entryAt (e .counts .lens)) (listOf l x) (sizesOf l (x .day))) → plan′ ≡ written plan 0 (planOf l x vs)
+  decodes-to plan h = h ∙ ap (λ d. written plan 0 d) (plan-same is-good is-lent (p .made z) vs (long-enough .0))

@@ -1,6 +1,3 @@
 -- assignment_solver.rs, solve_with_limit: the calls that build a model and check values.
-pub mod Calls
-pub mod Alike
-pub mod Building
 pub mod Answers
 pub mod Checking

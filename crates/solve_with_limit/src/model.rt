@@ -1,39 +1,17 @@
 // The flow model of a state at a preference limit.
-use crate::Counts;
-use crate::ModelAnswer;
-use crate::number::number_with;
-use input_data::InputData;
 use input_data::Limits;
-use input_data::Sizes;
-use mip_flow::Lengths;
-use schedule_state::AssignmentScheduleState;
-ghost use mathlib.Core.Path.{_≡_};
-ghost use mathlib.Core.Bool.{false};
-ghost use lib.ListN.{replicate};
+use model_buffers::ModelAnswer;
 ghost use Rattle.counting.specs.Lent.{old, new};
-ghost use Rattle.input_data.specs.Lengths.{fullDay};
-ghost use Rattle.plans.specs.Model.{modelInput};
-ghost use Rattle.solve_with_limit.specs.Calls.{buffers, lengthsOf, lentInput, refused, ModelLent};
-ghost use Rattle.solve_with_limit.specs.Building.{Buildable, ModelMade};
+ghost use Rattle.input_data.specs.Lengths.{Within, fullDay};
+ghost use Rattle.model_buffers.specs.Buffers.{buffers};
+ghost use Rattle.flow_model.specs.Lent.{lentInput};
+ghost use Rattle.flow_model.specs.Calls.{ModelLent};
 
-// A refused call: the number, and zeros.
-pub fn refuse(number: u32) -> ModelAnswer
-    ensures { λ r. ⌜ r ≡ refused number ⌝ }
-{
-    ModelAnswer {
-        number: number,
-        edges: 0,
-        entries: 0,
-        groups: 0,
-        blocked: 0,
-    }
-}
-
-// Writes the model of tested input into the buffers, and the numbers of the seats' edges into the index.
-pub fn put_model(
+// Builds the model within limits.
+fn build_model_within(
     limits: Limits,
-    day: InputData,
-    state: AssignmentScheduleState,
+    day: &[u8],
+    state: &[u8],
     limit: u32,
     preferences: &[u32],
     costs: &[i64],
@@ -46,72 +24,36 @@ pub fn put_model(
     entries: &mut [u16],
     ends: &mut [u16],
     blocked: &mut [u16],
-    index: &mut [u16; 2048],
-) -> Counts
-    requires { ⌜ Buildable limits (modelInput day state limit (now preferences) (now costs) (now lists))
-        (lengthsOf (buffers (now supplies) (now from) (now to) (now max) (now cost) (now entries) (now ends) (now blocked)))
-        × (now index ≡ replicate 2048 65535) ⌝ }
-    ensures { λ r. ⌜ ModelMade limits (modelInput day state limit (old preferences) (old costs) (old lists))
+) -> ModelAnswer
+    requires { ⌜ Within limits ⌝ }
+    ensures { λ r. ⌜ ModelLent limits (old day) (old state) (lentInput (old day) (old state) limit (old preferences) (old costs) (old lists))
         (buffers (old supplies) (old from) (old to) (old max) (old cost) (old entries) (old ends) (old blocked))
-        (buffers (new supplies) (new from) (new to) (new max) (new cost) (new entries) (new ends) (new blocked)) (new index) r ⌝ }
+        (buffers (new supplies) (new from) (new to) (new max) (new cost) (new entries) (new ends) (new blocked)) r ⌝ }
 {
-    let sizes = Sizes {
-        stride: limits.choices,
-        choosers: day.choosers,
-        choices: day.choices,
-        slots: day.slots,
-    };
-    let schedule = scheduling::kept(day.choices, &state.schedule.entries);
-    let lens = slot_lists::sums(&schedule, &schedule_state::ones(), day.choices);
-    mip_flow_static_data::put_supplies(sizes, &schedule, &day.mins, &state.covered, supplies);
-    let seats = mip_flow::put_seats(
-        sizes,
+    let mut index = [65535u16; 2048];
+    let entered = flow_model::enter(
+        limits,
+        day,
+        state,
         limit,
         preferences,
-        &state.blocks,
         costs,
         lists,
-        &lens,
+        supplies,
         from,
         to,
         max,
         cost,
-        index,
-    );
-    let edges = mip_flow::put_choices(
-        sizes,
-        &schedule,
-        &day.mins,
-        &day.maxs,
-        from,
-        to,
-        max,
-        cost,
-        seats,
-    );
-    let marks = edge_groups::put_groups(
-        seats,
-        sizes,
-        index,
-        lists,
-        &lens,
-        &schedule,
-        day.assignment,
-        day.groups,
-        &day.lengths,
-        &day.members,
         entries,
         ends,
         blocked,
+        &mut index,
+        false,
     );
-    Counts {
-        lens: lens,
-        seats: seats,
-        edges: edges,
-        entries: marks.entries,
-        groups: marks.groups,
-        blocked: marks.blocked,
+    if entered.number != 0 {
+        return model_buffers::refuse(entered.number);
     }
+    model_buffers::accept(entered.counts)
 }
 
 // Builds the model of a day, a state and its slot lists, at a preference limit.
@@ -135,35 +77,10 @@ pub fn build_model(
         (buffers (old supplies) (old from) (old to) (old max) (old cost) (old entries) (old ends) (old blocked))
         (buffers (new supplies) (new from) (new to) (new max) (new cost) (new entries) (new ends) (new blocked)) r ⌝ }
 {
-    let limits = input_data::full_day();
-    let lengths = Lengths {
-        supplies: supplies.len(),
-        from: from.len(),
-        to: to.len(),
-        max: max.len(),
-        cost: cost.len(),
-        entries: entries.len(),
-        ends: ends.len(),
-        blocked: blocked.len(),
-    };
-    let number = number_with(
-        limits,
+    build_model_within(
+        input_data::full_day(),
         day,
         state,
-        preferences,
-        costs,
-        lists,
-        lengths,
-        false,
-    );
-    if number != 0 {
-        return refuse(number);
-    }
-    let mut index = [65535u16; 2048];
-    let counts = put_model(
-        limits,
-        input_data::day_of(day),
-        schedule_state::state_of(state),
         limit,
         preferences,
         costs,
@@ -176,13 +93,5 @@ pub fn build_model(
         entries,
         ends,
         blocked,
-        &mut index,
-    );
-    ModelAnswer {
-        number: 0,
-        edges: counts.edges,
-        entries: counts.entries,
-        groups: counts.groups,
-        blocked: counts.blocked,
-    }
+    )
 }

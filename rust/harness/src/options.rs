@@ -3,7 +3,7 @@ use crate::run::Settings;
 use crate::suites::SUITES;
 
 const USAGE: &str = "differential [--seed N] [--count N] [--only NAME [--case N]] \
-                     [--check-records PATH] [--write-records PATH]";
+                     [--write-records]";
 
 /// What the gate runs with.
 const SEED: u64 = 1;
@@ -12,15 +12,20 @@ const SEED: u64 = 1;
 pub struct Options {
     pub settings: Settings,
     pub only: Option<String>,
-    pub write_records: Option<String>,
+    /// Write tests/records.bin and run nothing.
+    pub write_records: bool,
 }
 
 impl Options {
     /// Reads the words of a command line, or says what is wrong with them.
     pub fn read(mut words: impl Iterator<Item = String>) -> Result<Self, String> {
-        let settings = Settings { seed: SEED, count: None, case: None, records: None };
-        let mut options = Self { settings, only: None, write_records: None };
+        let settings = Settings { seed: SEED, count: None, case: None };
+        let mut options = Self { settings, only: None, write_records: false };
         while let Some(word) = words.next() {
+            if word == "--write-records" {
+                options.write_records = true;
+                continue;
+            }
             let Some(value) = words.next() else {
                 return Err(format!("{word} stands without a value\n{USAGE}"));
             };
@@ -30,8 +35,6 @@ impl Options {
                 "--count" => options.settings.count = Some(number()?),
                 "--case" => options.settings.case = Some(number()?),
                 "--only" => options.only = Some(suite_name(value)?),
-                "--check-records" => options.settings.records = Some(value),
-                "--write-records" => options.write_records = Some(value),
                 _ => return Err(format!("{word} is no option\n{USAGE}")),
             }
         }

@@ -1,5 +1,5 @@
 //! Notes of calls: while they are taken, each comparison of a call with what it
-//! must give leaves one. `records/calls.rs` makes a file of them.
+//! must give leaves one. `records.rs` makes a file of them.
 use crate::day::{CHOICES, CHOOSERS, Day, SLOTS};
 use port::guarded::Element;
 use port::{

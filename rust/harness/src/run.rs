@@ -31,9 +31,6 @@ pub struct Settings {
     pub count: Option<u64>,
     /// The one case to run.
     pub case: Option<u64>,
-    /// The proved program's file of recorded answers. Where it is looked at, so is
-    /// that of the calls.
-    pub records: Option<String>,
 }
 
 /// Why a case failed.
@@ -88,10 +85,6 @@ impl<'a> Run<'a> {
         self.settings.count.unwrap_or(DAYS)
     }
 
-    pub fn records(&self) -> Option<&'a str> {
-        self.settings.records.as_deref()
-    }
-
     /// The next case; left out where another one alone was asked for.
     pub fn case(&mut self, test: impl FnOnce(&mut Random) -> Outcome) {
         let case = self.next;
@@ -142,14 +135,13 @@ impl<'a> Run<'a> {
     }
 
     fn print(&self, case: Option<u64>, failure: &Failure) {
-        let Settings { seed, count, records, .. } = self.settings;
+        let Settings { seed, count, .. } = self.settings;
         let suite = self.suite;
         let name = case.map_or("over all cases".to_owned(), |case| format!("case {case}"));
         // A case past the usual ones needs the count that it was found with.
         let told = [
             case.map(|case| format!(" --case {case}")),
             count.map(|count| format!(" --count {count}")),
-            records.as_ref().map(|path| format!(" --check-records {path}")),
         ];
         println!("FAILED {suite}, seed {seed}, {name}");
         if !failure.input.is_empty() {

@@ -143,9 +143,11 @@ pub const INFEASIBLE: u32 = 1;
 /// The search begun, with what an earlier one remembered.
 pub fn begun(day: &Day, schedule: Scheduling, cached: Memory) -> Step {
     let schedule = kept(day, schedule);
-    let search = Search { greedy: day.greedy, optimal: true, schedule, cached, ..Search::NONE };
+    let search =
+        Search { greedy: day.greedy, optimal: !day.greedy, schedule, cached, ..Search::NONE };
     if remembers(day, &cached, schedule) {
-        return stopped(Search { found: true, plan: seats(day, &cached.plan), ..search });
+        let plan = seats(day, &cached.plan);
+        return stopped(Search { found: true, optimal: true, plan, ..search });
     }
     match day.levels.len().checked_sub(1) {
         _ if day.greedy => asking(day, search),
@@ -171,7 +173,9 @@ pub fn told(day: &Day, search: &Search, told: Told, plan: &[u8]) -> Step {
     if is_feasible {
         (next.found, next.level, next.plan) = (true, level, seats(day, plan));
     }
-    if told == Told::Late || search.greedy && !is_feasible {
+    if search.greedy {
+        next.optimal = is_feasible;
+    } else if told == Told::Late {
         next.optimal = false;
     }
     if search.greedy || is_feasible && index == search.start {

@@ -11,8 +11,6 @@ use borrow.Author.Tests.{eq-eqb, ne-eqb}
 use borrow.Author.Needs.{needs}
 use Rattle.mip_flow_static_data.proofs.choice_supply.Statement.{statement}
 use Rattle.mip_flow_static_data.proofs.choice_supply.Tie as tie
-use Rattle.mip_flow_static_data.proofs.choice_supply.Reads as reads
-use Rattle.mip_flow_static_data.proofs.choice_supply.Lts as lts
 use Rattle.counting.proofs.minus.Reads as minus-reads
 
 supply-none : (e m : ℕ) → e ≡ 0 → pos 0 ≡ cond (eqb e 0) (pos 0) (negℤ (pos m))
@@ -21,15 +19,12 @@ supply-none e m q = rw (eq-eqb e 0 q)
 supply-some : (e m : ℕ) → e ≢ 0 → negℤ (pos m) ≡ cond (eqb e 0) (pos 0) (negℤ (pos m))
 supply-some e m q = rw (ne-eqb e 0 q)
 
--- src/lib.rt:20:9
 returns : tie.Need-returns
 returns c = supply-none (c .before .args .entry) (c .before .args .min) (c .if1 .taken)
 
--- src/lib.rt:22:5
 minus-requires : tie.Need-minus-requires
 minus-requires c κs = search needs
 
--- src/lib.rt:15:1
 returns-2 : tie.Need-returns-2
 returns-2 c = back w32 _ (c .minus .ok) ∙ c .minus .ensures ∙ supply-some (c .before .before .args .entry) (c .before .before .args .min) (c .before .if1 .left)
 

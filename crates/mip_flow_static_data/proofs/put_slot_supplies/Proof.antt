@@ -1,17 +1,14 @@
 use Prim.Native.Nat.{_≤_, _-_}
-use mathlib.Core.Path.{_≡_, refl, _∙_}
+use mathlib.Core.Path.{_∙_}
 use lib.IntN.{pos, _-ℤ_}
-use lib.ListN.{length}
 use mir.Syntax.{w32}
 use native.Mathlib.Omega.{arith}
 use borrow.Author.Needs.{needs}
 use Rattle.counting.specs.Signed.{back}
-use Rattle.counting.specs.Written.{Fills, fill-none, fill-more, fill-length, fill-all}
+use Rattle.counting.specs.WrittenLaws.{Fills, fill-none, fill-more, fill-length, fill-all}
 use Rattle.scheduling.specs.Schedule.{entryAt}
 use Rattle.mip_flow_static_data.proofs.put_slot_supplies.Statement.{statement}
 use Rattle.mip_flow_static_data.proofs.put_slot_supplies.Tie as tie
-use Rattle.mip_flow_static_data.proofs.put_slot_supplies.Reads as reads
-use Rattle.mip_flow_static_data.proofs.put_slot_supplies.Lts as lts
 use Rattle.counting.proofs.difference.Reads as difference-reads
 
 abbrev Inv-loop : tie.InvT-loop
@@ -20,55 +17,42 @@ Inv-loop covered out₀ at slots choosers s₀ out s = (s ≤ slots) × Fills ou
 abbrev μ-loop : tie.MeasureT-loop
 μ-loop covered out₀ at slots choosers s₀ out s = slots - s
 
--- src/lib.rt:59:20
 cast-choosers : tie.Need-cast-choosers Inv-loop μ-loop
 cast-choosers c = search needs
 
--- src/lib.rt:61:5
 loop-holds : tie.Need-loop-holds Inv-loop μ-loop
 loop-holds c = (search needs, fill-none _ _ _)
 
--- src/lib.rt:62:44
 mul-difference : tie.Need-mul-difference Inv-loop μ-loop
 mul-difference c = search needs
 
--- src/lib.rt:62:44
 element-copy-out-difference : tie.Need-element-copy-out-difference Inv-loop μ-loop
 element-copy-out-difference c = search needs
 
--- src/lib.rt:62:23
 difference-requires : tie.Need-difference-requires Inv-loop μ-loop
 difference-requires c κs = (omega (arith, c .before .before .before .before .pre .3 _ (c .before .loop-test .taken)), omega arith)
 
--- src/lib.rt:62:13
 add-t14 : tie.Need-add-t14 Inv-loop μ-loop
 add-t14 c = search needs
 
--- src/lib.rt:62:9
 mul-t15 : tie.Need-mul-t15 Inv-loop μ-loop
 mul-t15 c = search needs
 
--- src/lib.rt:62:9
 slice-set-from-out : tie.Need-slice-set-from-out Inv-loop μ-loop
 slice-set-from-out c = omega (arith, fill-length (c .before .before .before .loop .inv .1))
 
--- src/lib.rt:63:9
 add-s : tie.Need-add-s Inv-loop μ-loop
 add-s c = search needs
 
--- src/lib.rt:61:5
 loop-less : tie.Need-loop-less Inv-loop μ-loop
 loop-less c = search needs
 
--- src/lib.rt:61:5
 loop-again : tie.Need-loop-again Inv-loop μ-loop
 loop-again c = (search needs, fill-more (c .before .before .before .loop .inv .1) (back w32 _ (c .difference .ok) ∙ c .difference .ensures))
 
--- src/lib.rt:54:1
 same-length : tie.Need-same-length Inv-loop μ-loop
 same-length c = fill-length (c .before .loop .inv .1)
 
--- src/lib.rt:54:1
 returns : tie.Need-returns Inv-loop μ-loop
 returns c = fill-all (omega arith) (c .before .loop .inv .1)
 

@@ -3,7 +3,8 @@ use mathlib.Core.Bool.{false, _||_}
 use Prim.Native.Nat.{_≤_, _-_, min}
 use native.Mathlib.Omega.{arith}
 use borrow.Author.Needs.{needs}
-use Rattle.counting.specs.Fold.{anyTo, fold-none}
+use Rattle.counting.specs.Fold.{anyTo}
+use Rattle.counting.specs.FoldLaws.{fold-none}
 use Rattle.counting.specs.Tests.{any-more, places-all}
 use Rattle.scheduling.specs.Schedule.{badEntryAt}
 use Rattle.scheduling.proofs.bad_slots.Statement.{statement}

@@ -3,23 +3,16 @@ use Rattle.score.proofs.Floats.{nan-bits, no-nan}
 use Rattle.counting.specs.Tests.{so}
 use Rattle.score.proofs.bits.Statement.{statement}
 use Rattle.score.proofs.bits.Tie as tie
-use Rattle.score.proofs.bits.Reads as reads
-use Rattle.score.proofs.bits.Lts as lts
-use Rattle.score.proofs.is_nan.Reads as is-nan-reads
 
--- src/lib.rt:227:8
 is-nan-requires : tie.Need-is-nan-requires
 is-nan-requires c κs = search needs
 
--- src/lib.rt:228:9
 returns : tie.Need-returns
 returns c = nan-bits (c .before .before .args .x) (so (c .before .is-nan .ensures) (c .if1 .taken))
 
--- src/lib.rt:230:5
 float-to-bits-result : tie.Need-float-to-bits-result
 float-to-bits-result c = no-nan (c .before .before .args .x) (so (c .before .is-nan .ensures) (c .if1 .left))
 
--- src/lib.rt:224:1
 returns-2 : tie.Need-returns-2
 returns-2 c = search needs
 

@@ -2,43 +2,33 @@ use Prim.Native.Nat.{_*_}
 use native.Mathlib.Nat.{add-sub-cancel-left}
 use native.Mathlib.Omega.{arith}
 use denote.Ref.{now}
-use Rattle.slot_lists.specs.Lists.{leave-in-part}
+use Rattle.slot_lists.specs.ListsLaws.{leave-in-part}
 use borrow.Author.Needs.{needs}
 use Rattle.slot_lists.proofs.leave.Statement.{statement}
 use Rattle.slot_lists.proofs.leave.Tie as tie
-use Rattle.slot_lists.proofs.leave.Reads as reads
-use Rattle.slot_lists.proofs.leave.Lts as lts
 use Rattle.slot_lists.proofs.remove.Reads as remove-reads
 
--- src/lib.rt:62:13
 mul-a : tie.Need-mul-a
 mul-a c = search needs
 
--- src/lib.rt:63:13
 add-e : tie.Need-add-e
 add-e c = search needs
 
--- src/lib.rt:64:12
 sub-remove : tie.Need-sub-remove
 sub-remove c = search needs
 
--- src/lib.rt:64:12
 part-remove-start : tie.Need-part-remove-start
 part-remove-start c = search needs
 
--- src/lib.rt:64:12
 part-remove-end : tie.Need-part-remove-end
 part-remove-end c = search needs
 
--- src/lib.rt:64:5
 remove-requires : tie.Need-remove-requires
 remove-requires c κs = search needs
 
--- src/lib.rt:58:1
 same-length : tie.Need-same-length
 same-length c = search needs
 
--- src/lib.rt:58:1
 returns : tie.Need-returns
 returns c = let s = c .before .before .before .before .before .args in rw (c .before .before .remove .ensures, add-sub-cancel-left (s .stride * s .slot) (s .stride)) (leave-in-part (s .stride) (s .slot) (s .len) (s .choice) (now (s .lists)) (omega arith) (omega arith))
 

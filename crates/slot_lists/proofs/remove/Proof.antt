@@ -1,43 +1,34 @@
 use mathlib.Core.Path.{sym}
 use borrow.Author.Tests.{lt-ltb, le-ltb}
-use Rattle.slot_lists.specs.Lists.{removed}
+use Rattle.slot_lists.specs.ListsLaws.{removed}
 use borrow.Author.Needs.{needs}
 use Rattle.slot_lists.proofs.remove.Statement.{statement}
 use Rattle.slot_lists.proofs.remove.Tie as tie
-use Rattle.slot_lists.proofs.remove.Reads as reads
-use Rattle.slot_lists.proofs.remove.Lts as lts
 use Rattle.slot_lists.proofs.place.Reads as place-reads
 
--- src/lib.rt:40:9
+-- where the choice stands
 place-requires : tie.Need-place-requires
 place-requires c κs = search needs
 
--- src/lib.rt:42:25
 sub-last : tie.Need-sub-last
 sub-last c = search needs
 
--- src/lib.rt:42:20
 slice-read-last : tie.Need-slice-read-last
 slice-read-last c = search needs
 
--- src/lib.rt:43:9
 slice-write-part : tie.Need-slice-write-part
 slice-write-part c = search needs
 
--- src/lib.rt:36:1
 same-length : tie.Need-same-length
 same-length c = search needs
 
--- src/lib.rt:36:1
 returns : tie.Need-returns
 unfolding removed
 returns c = rw (sym (c .before .before .place .ensures), lt-ltb _ _ (c .before .if1 .taken))
 
--- src/lib.rt:36:1
 same-length-2 : tie.Need-same-length-2
 same-length-2 c = search needs
 
--- src/lib.rt:36:1
 returns-2 : tie.Need-returns-2
 unfolding removed
 returns-2 c = rw (sym (c .before .place .ensures), le-ltb _ _ (c .if1 .left))

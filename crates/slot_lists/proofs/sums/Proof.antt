@@ -1,15 +1,12 @@
-use mathlib.Core.Path.{_≡_}
+use mathlib.Core.Path.{_≡_, refl}
 use lib.ListN.{getD-replicate}
-use mathlib.Core.Path.{refl}
 use Prim.Native.Nat.{_≤_, _-_}
 use native.Mathlib.Omega.{arith}
 use borrow.Author.Needs.{needs}
 use Rattle.scheduling.specs.Schedule.{entryAt}
-use Rattle.slot_lists.specs.Sums.{Sums, sums-none, sums-next, sums-most}
+use Rattle.slot_lists.specs.SumsLaws.{Sums, sums-none, sums-next, sums-most}
 use Rattle.slot_lists.proofs.sums.Statement.{statement}
 use Rattle.slot_lists.proofs.sums.Tie as tie
-use Rattle.slot_lists.proofs.sums.Reads as reads
-use Rattle.slot_lists.proofs.sums.Lts as lts
 use Rattle.slot_lists.proofs.add.Reads as add-reads
 
 abbrev Inv-loop : tie.InvT-loop
@@ -18,39 +15,30 @@ Inv-loop entries weights n out₀ i₀ out i = (i ≤ n) × Sums (entryAt weight
 abbrev μ-loop : tie.MeasureT-loop
 μ-loop entries weights n out₀ i₀ out i = n - i
 
--- src/lib.rt:154:5
 loop-holds : tie.Need-loop-holds Inv-loop μ-loop
 loop-holds c = (omega arith, sums-none _ _ _ refl (λ s l. getD-replicate 8 s 0 0 l))
 
--- src/lib.rt:155:23
 element-copy-out-add : tie.Need-element-copy-out-add Inv-loop μ-loop
 element-copy-out-add c = search needs
 
--- src/lib.rt:155:35
 mul-add : tie.Need-mul-add Inv-loop μ-loop
 mul-add c = search needs
 
--- src/lib.rt:155:35
 element-copy-out-add-2 : tie.Need-element-copy-out-add-2 Inv-loop μ-loop
 element-copy-out-add-2 c = search needs
 
--- src/lib.rt:155:9
 add-requires : tie.Need-add-requires Inv-loop μ-loop
 add-requires c κs = let p = c .before .before .before .before .before .pre in let k = c .before .before .before .before .loop .i in record { small = p .small k (omega arith); fits = λ d. omega (arith, p .count, p .light k (omega arith), sums-most (c .before .before .before .before .loop .inv .1) 1000 (λ j b. p .light j (omega arith)) (entryAt (c .before .before .before .before .before .args .entries .now) k) (p .small k (omega arith)) d) }
 
--- src/lib.rt:156:9
 add-i : tie.Need-add-i Inv-loop μ-loop
 add-i c = search needs
 
--- src/lib.rt:154:5
 loop-less : tie.Need-loop-less Inv-loop μ-loop
 loop-less c = search needs
 
--- src/lib.rt:154:5
 loop-again : tie.Need-loop-again Inv-loop μ-loop
 loop-again c = (omega arith, rw (c .add .ensures) (sums-next (c .before .before .before .before .before .loop .inv .1) (c .before .before .before .before .before .before .pre .small (c .before .before .before .before .before .loop .i) (omega arith))))
 
--- src/lib.rt:148:1
 returns : tie.Need-returns Inv-loop μ-loop
 returns c = let e : c .before .loop .i ≡ c .before .before .args .n = omega arith in rw e at (c .before .loop .inv .1)
 

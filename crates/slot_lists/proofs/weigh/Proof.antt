@@ -2,11 +2,9 @@ use mathlib.Core.Path.{_≡_}
 use Prim.Native.Nat.{_≤_, _-_}
 use native.Mathlib.Omega.{arith}
 use borrow.Author.Needs.{needs}
-use Rattle.slot_lists.specs.Sums.{SlotSums, unweighed-none, adds-length, adds-covered, slot-sums-next}
+use Rattle.slot_lists.specs.SumsLaws.{SlotSums, unweighed-none, adds-length, adds-covered, slot-sums-next}
 use Rattle.slot_lists.proofs.weigh.Statement.{statement}
 use Rattle.slot_lists.proofs.weigh.Tie as tie
-use Rattle.slot_lists.proofs.weigh.Reads as reads
-use Rattle.slot_lists.proofs.weigh.Lts as lts
 use Rattle.slot_lists.proofs.add.Reads as add-reads
 
 abbrev Inv-loop : tie.InvT-loop
@@ -15,47 +13,36 @@ Inv-loop lens₀ covered₀ entries mins n i₀ lens covered i = (i ≤ n) × Sl
 abbrev μ-loop : tie.MeasureT-loop
 μ-loop lens₀ covered₀ entries mins n i₀ lens covered i = n - i
 
--- src/lib.rt:174:5
 loop-holds : tie.Need-loop-holds Inv-loop μ-loop
 loop-holds c = (omega arith, unweighed-none _ _ (c .pre .0))
 
--- src/lib.rt:175:19
 element-copy-out-add : tie.Need-element-copy-out-add Inv-loop μ-loop
 element-copy-out-add c = search needs
 
--- src/lib.rt:175:9
 add-requires : tie.Need-add-requires Inv-loop μ-loop
 add-requires c κs = adds-length (c .before .before .before .before .pre .1) (omega arith) (c .before .before .before .loop .inv .1)
 
--- src/lib.rt:176:22
 element-copy-out-add-2 : tie.Need-element-copy-out-add-2 Inv-loop μ-loop
 element-copy-out-add-2 c = search needs
 
--- src/lib.rt:176:34
 mul-add : tie.Need-mul-add Inv-loop μ-loop
 mul-add c = search needs
 
--- src/lib.rt:176:34
 element-copy-out-add-3 : tie.Need-element-copy-out-add-3 Inv-loop μ-loop
 element-copy-out-add-3 c = search needs
 
--- src/lib.rt:176:9
 add-requires-2 : tie.Need-add-requires-2 Inv-loop μ-loop
 add-requires-2 c κs = adds-covered (c .before .before .before .before .before .before .before .before .pre .1) (omega arith) (c .before .before .before .before .before .before .before .loop .inv .1)
 
--- src/lib.rt:177:9
 add-i : tie.Need-add-i Inv-loop μ-loop
 add-i c = search needs
 
--- src/lib.rt:174:5
 loop-less : tie.Need-loop-less Inv-loop μ-loop
 loop-less c = search needs
 
--- src/lib.rt:174:5
 loop-again : tie.Need-loop-again Inv-loop μ-loop
 loop-again c = (omega arith, rw (c .add2 .ensures, c .before .before .before .before .add .ensures) (slot-sums-next (c .before .before .before .before .before .before .before .before .before .pre .1) (omega arith) (c .before .before .before .before .before .before .before .before .loop .inv .1)))
 
--- src/lib.rt:163:1
 returns : tie.Need-returns Inv-loop μ-loop
 returns c = let e : c .before .loop .i ≡ c .before .before .args .n = omega arith in rw e at (c .before .loop .inv .1)
 

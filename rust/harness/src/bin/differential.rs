@@ -19,9 +19,8 @@ fn main() -> ExitCode {
     };
     panics::set_hook();
     port::crash::watch();
-    if let Some(path) = &options.write_records {
-        fs::write(path, records::program::bytes()).expect("the records can be written");
-        fs::write(records::calls::PATH, records::calls::bytes()).expect("and those of the calls");
+    if options.write_records {
+        fs::write(records::PATH, records::bytes()).expect("the records can be written");
         return ExitCode::SUCCESS;
     }
     let (made, failed) = run_all(&options);

@@ -1,19 +1,14 @@
 use borrow.Author.Needs.{needs}
 use Rattle.assignment.proofs.checks.bad_if.Statement.{statement}
 use Rattle.assignment.proofs.checks.bad_if.Tie as tie
-use Rattle.assignment.proofs.checks.bad_if.Reads as reads
-use Rattle.assignment.proofs.checks.bad_if.Lts as lts
 use Rattle.assignment.proofs.checks.bad_plan_for.Reads as bad-plan-for-reads
 
--- src/checks.rt:63:9
 bad-plan-for-requires : tie.Need-bad-plan-for-requires
 bad-plan-for-requires c κs = c .before .before .before .pre (c .if1 .taken)
 
--- src/checks.rt:63:9
 returns : tie.Need-returns
 returns c = rw (c .before .if1 .taken) (c .bad-plan-for .ensures)
 
--- src/checks.rt:58:1
 returns-2 : tie.Need-returns-2
 returns-2 c = search needs
 

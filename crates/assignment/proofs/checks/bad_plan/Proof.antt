@@ -3,13 +3,12 @@ use mathlib.Core.Path.{_≡_, refl, sym, _∙_}
 use mathlib.Core.Bool.{false, _||_}
 use native.Mathlib.Omega.{arith}
 use borrow.Author.Needs.{needs}
-use Rattle.counting.specs.Fold.{anyTo, fold-none, fold-at}
+use Rattle.counting.specs.Fold.{anyTo}
+use Rattle.counting.specs.FoldLaws.{fold-none, fold-at}
 use Rattle.counting.specs.Tests.{any-more}
 use Rattle.assignment.specs.Plan.{noChoice, badPlan}
 use Rattle.assignment.proofs.checks.bad_plan.Statement.{statement}
 use Rattle.assignment.proofs.checks.bad_plan.Tie as tie
-use Rattle.assignment.proofs.checks.bad_plan.Reads as reads
-use Rattle.assignment.proofs.checks.bad_plan.Lts as lts
 
 abbrev Inv-loop : tie.InvT-loop
 Inv-loop choices seats plan bad₀ i₀ bad i = (i ≤ seats) × (bad ≡ anyTo i (noChoice choices plan))
@@ -17,31 +16,24 @@ Inv-loop choices seats plan bad₀ i₀ bad i = (i ≤ seats) × (bad ≡ anyTo 
 abbrev μ-loop : tie.MeasureT-loop
 μ-loop choices seats plan bad₀ i₀ bad i = seats - i
 
--- src/checks.rt:23:5
 loop-holds : tie.Need-loop-holds Inv-loop μ-loop
 loop-holds c = (search needs, sym (fold-none _||_ false _))
 
--- src/checks.rt:24:33
 shared-slice-read-bad : tie.Need-shared-slice-read-bad Inv-loop μ-loop
 shared-slice-read-bad c = omega (arith, c .before .before .before .pre)
 
--- src/checks.rt:24:33
 cast-bad : tie.Need-cast-bad Inv-loop μ-loop
 cast-bad c = omega (arith, c .shared-slice-known .given (c .before .before .loop .i))
 
--- src/checks.rt:25:9
 add-i : tie.Need-add-i Inv-loop μ-loop
 add-i c = search needs
 
--- src/checks.rt:23:5
 loop-less : tie.Need-loop-less Inv-loop μ-loop
 loop-less c = search needs
 
--- src/checks.rt:23:5
 loop-again : tie.Need-loop-again Inv-loop μ-loop
 loop-again c = (search needs, any-more _ _ (c .before .before .loop .inv .1) refl)
 
--- src/checks.rt:17:1
 returns : tie.Need-returns Inv-loop μ-loop
 unfolding badPlan
 returns c = c .before .loop .inv .1 ∙ fold-at _ _ _ (omega arith)

@@ -3,13 +3,12 @@ use mathlib.Core.Path.{_≡_, sym, _∙_}
 use mathlib.Core.Bool.{false, _||_}
 use native.Mathlib.Omega.{arith}
 use borrow.Author.Needs.{needs}
-use Rattle.counting.specs.Fold.{anyTo, fold-none, fold-at}
+use Rattle.counting.specs.Fold.{anyTo}
+use Rattle.counting.specs.FoldLaws.{fold-none, fold-at}
 use Rattle.counting.specs.Tests.{any-more}
 use Rattle.assignment.specs.Plan.{unseated, badPlanFor}
 use Rattle.assignment.proofs.checks.bad_plan_for.Statement.{statement}
 use Rattle.assignment.proofs.checks.bad_plan_for.Tie as tie
-use Rattle.assignment.proofs.checks.bad_plan_for.Reads as reads
-use Rattle.assignment.proofs.checks.bad_plan_for.Lts as lts
 use Rattle.assignment.proofs.checks.is_unseated.Reads as is-unseated-reads
 
 abbrev Inv-loop : tie.InvT-loop
@@ -18,31 +17,24 @@ Inv-loop choices seats entries plan bad₀ i₀ bad i = (i ≤ seats) × (bad �
 abbrev μ-loop : tie.MeasureT-loop
 μ-loop choices seats entries plan bad₀ i₀ bad i = seats - i
 
--- src/checks.rt:49:5
 loop-holds : tie.Need-loop-holds Inv-loop μ-loop
 loop-holds c = (search needs, sym (fold-none _||_ false _))
 
--- src/checks.rt:50:51
 shared-slice-read-is-unseated : tie.Need-shared-slice-read-is-unseated Inv-loop μ-loop
 shared-slice-read-is-unseated c = search needs
 
--- src/checks.rt:50:21
 is-unseated-requires : tie.Need-is-unseated-requires Inv-loop μ-loop
 is-unseated-requires c κs = search needs
 
--- src/checks.rt:51:9
 add-i : tie.Need-add-i Inv-loop μ-loop
 add-i c = search needs
 
--- src/checks.rt:49:5
 loop-less : tie.Need-loop-less Inv-loop μ-loop
 loop-less c = search needs
 
--- src/checks.rt:49:5
 loop-again : tie.Need-loop-again Inv-loop μ-loop
 loop-again c = (search needs, any-more _ _ (c .before .before .before .loop .inv .1) (c .is-unseated .ensures))
 
--- src/checks.rt:43:1
 returns : tie.Need-returns Inv-loop μ-loop
 unfolding badPlanFor
 returns c = c .before .loop .inv .1 ∙ fold-at _ _ _ (omega arith)

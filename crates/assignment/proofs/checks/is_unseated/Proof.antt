@@ -2,18 +2,13 @@ use borrow.Author.Tests.{lt-leb, le-leb}
 use borrow.Author.Needs.{needs}
 use Rattle.assignment.proofs.checks.is_unseated.Statement.{statement}
 use Rattle.assignment.proofs.checks.is_unseated.Tie as tie
-use Rattle.assignment.proofs.checks.is_unseated.Reads as reads
-use Rattle.assignment.proofs.checks.is_unseated.Lts as lts
 
--- src/checks.rt:38:16
 shared-slice-read-result : tie.Need-shared-slice-read-result
 shared-slice-read-result c = search needs
 
--- src/checks.rt:38:9
 returns : tie.Need-returns
 returns c = rw (lt-leb _ _ (c .before .if1 .taken))
 
--- src/checks.rt:32:1
 returns-2 : tie.Need-returns-2
 returns-2 c = rw (le-leb _ _ (c .if1 .left))
 

@@ -6,8 +6,6 @@ use Rattle.counting.specs.Lists.{Padded, padded-none, padded-more, padded-all}
 use Rattle.scheduling.specs.Schedule.{entryAt}
 use Rattle.assignment.proofs.checks.kept_plan.Statement.{statement}
 use Rattle.assignment.proofs.checks.kept_plan.Tie as tie
-use Rattle.assignment.proofs.checks.kept_plan.Reads as reads
-use Rattle.assignment.proofs.checks.kept_plan.Lts as lts
 use Rattle.counting.proofs.at_most.Reads as at-most-reads
 
 abbrev Inv-loop : tie.InvT-loop
@@ -16,35 +14,27 @@ Inv-loop seats plan n out₀ i₀ out i = (i ≤ n) × (n ≡ min seats 512) × 
 abbrev μ-loop : tie.MeasureT-loop
 μ-loop seats plan n out₀ i₀ out i = n - i
 
--- src/checks.rt:73:9
 at-most-requires : tie.Need-at-most-requires Inv-loop μ-loop
 at-most-requires c κs = search needs
 
--- src/checks.rt:76:5
 loop-holds : tie.Need-loop-holds Inv-loop μ-loop
 loop-holds c = (omega arith, c .at-most .ensures, padded-none _ 512)
 
--- src/checks.rt:77:18
 shared-slice-read-out : tie.Need-shared-slice-read-out Inv-loop μ-loop
 shared-slice-read-out c = search needs
 
--- src/checks.rt:77:9
 array-write-out : tie.Need-array-write-out Inv-loop μ-loop
 array-write-out c = search needs
 
--- src/checks.rt:78:9
 add-i : tie.Need-add-i Inv-loop μ-loop
 add-i c = search needs
 
--- src/checks.rt:76:5
 loop-less : tie.Need-loop-less Inv-loop μ-loop
 loop-less c = search needs
 
--- src/checks.rt:76:5
 loop-again : tie.Need-loop-again Inv-loop μ-loop
 loop-again c = let v = c .before .before .loop .inv in (omega arith, v .1, padded-more (omega arith) refl (v .2))
 
--- src/checks.rt:69:1
 returns : tie.Need-returns Inv-loop μ-loop
 returns c = padded-all (c .before .before .before .before .args .seats) (omega arith) (c .before .loop .inv .2)
 

@@ -2,20 +2,15 @@ use Rattle.input_data.specs.Numbers.{full-within}
 use borrow.Author.Needs.{needs}
 use Rattle.assignment.proofs.seats.choice_of.Statement.{statement}
 use Rattle.assignment.proofs.seats.choice_of.Tie as tie
-use Rattle.assignment.proofs.seats.choice_of.Reads as reads
-use Rattle.assignment.proofs.seats.choice_of.Lts as lts
 use Rattle.assignment.proofs.seats.choice_within.Reads as choice-within-reads
 use Rattle.input_data.proofs.full_day.Reads as full-day-reads
 
--- src/seats.rt:102:19
 full-day-requires : tie.Need-full-day-requires
 full-day-requires c κs = search needs
 
--- src/seats.rt:102:5
 choice-within-requires : tie.Need-choice-within-requires
 choice-within-requires c κs = rw (c .full-day .ensures) full-within
 
--- src/seats.rt:99:1
 returns : tie.Need-returns
 returns c = rw (c .before .full-day .ensures) at (c .choice-within .ensures)
 

@@ -11,8 +11,6 @@ use Rattle.assignment.specs.Laws.{plan-lent, answer-short, answer-refuse
 use borrow.Author.Needs.{needs}
 use Rattle.assignment.proofs.seats.choice_within.Statement.{statement}
 use Rattle.assignment.proofs.seats.choice_within.Tie as tie
-use Rattle.assignment.proofs.seats.choice_within.Reads as reads
-use Rattle.assignment.proofs.seats.choice_within.Lts as lts
 use Rattle.assignment.proofs.checks.plan_number.Reads as plan-number-reads
 use Rattle.assignment.proofs.seats.choice_answer.Reads as choice-answer-reads
 use Rattle.input_data.proofs.choosers.Reads as choosers-reads
@@ -29,57 +27,44 @@ row c e = let a = c .before .before .before .before .before .before .args in ask
 slot : (c : tie.After-plan-number) → c .plan-number .result ≡ 0 → (let a = c .before .before .before .before .before .before .args in a .slot < dayOf (a .day .now) .slots)
 slot c e = let a = c .before .before .before .before .before .before .args in asked-slot (a .limits) (dayOf (a .day .now)) (a .plan .now) (a .chooser) (a .slot) (c .before .before .before .before .before .before .pre) (lent-zero (a .limits) (a .day .now) false _ (so (numbered c) e) .zero)
 
--- src/seats.rt:87:9
 choice-answer-requires : tie.Need-choice-answer-requires
 choice-answer-requires c κs = search needs
 
--- src/seats.rt:87:9
 returns : tie.Need-returns
 unfolding choiceLent
 returns c = answer-short _ _ _ _ (λ n. choice n 0) (c .before .if1 .taken) (c .choice-answer .ensures)
 
--- src/seats.rt:89:9
 slots-requires : tie.Need-slots-requires
 slots-requires c κs = search needs
 
--- src/seats.rt:90:18
 choosers-requires : tie.Need-choosers-requires
 choosers-requires c κs = search needs
 
--- src/seats.rt:91:9
 plan-number-requires : tie.Need-plan-number-requires
 plan-number-requires c κs = search needs
 
--- src/seats.rt:93:9
 choice-answer-requires-2 : tie.Need-choice-answer-requires-2
 choice-answer-requires-2 c κs = search needs
 
--- src/seats.rt:93:9
 returns-2 : tie.Need-returns-2
 unfolding choiceLent
 returns-2 c = answer-refused _ (λ n. choice n 0) (numbered (c .before .before)) (c .before .if2 .taken) (c .choice-answer2 .ensures)
 
--- src/seats.rt:95:27
 mul-choice-answer : tie.Need-mul-choice-answer
 mul-choice-answer c = rw (c .before .before .before .slots .ensures) (omega (arith, row (c .before) (c .if2 .left) .1))
 
--- src/seats.rt:95:27
 add-choice-answer : tie.Need-add-choice-answer
 add-choice-answer c = rw (c .before .before .before .slots .ensures) (omega (arith, row (c .before) (c .if2 .left) .1, slot (c .before) (c .if2 .left)))
 
--- src/seats.rt:95:22
 shared-slice-read-choice-answer : tie.Need-shared-slice-read-choice-answer
 shared-slice-read-choice-answer c = rw (c .before .before .before .before .slots .ensures) (omega (arith, row (c .before .before) (c .before .if2 .left) .0, slot (c .before .before) (c .before .if2 .left)))
 
--- src/seats.rt:95:22
 cast-choice-answer : tie.Need-cast-choice-answer
 cast-choice-answer c = let a = c .before .before .before .before .before .before .before .before .args in omega (arith, c .shared-slice-known3 .given (a .chooser * c .before .before .before .before .slots .result + a .slot))
 
--- src/seats.rt:95:5
 choice-answer-requires-3 : tie.Need-choice-answer-requires-3
 choice-answer-requires-3 c κs = search needs
 
--- src/seats.rt:76:1
 returns-3 : tie.Need-returns-3
 unfolding choiceLent
 returns-3 c = answer-done _ (so (numbered (c .before .before .before)) (c .before .before .if2 .left)) (rw (c .before .before .before .before .before .slots .ensures) at (c .choice-answer3 .ensures))

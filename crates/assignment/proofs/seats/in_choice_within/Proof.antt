@@ -12,8 +12,6 @@ use Rattle.assignment.specs.Laws.{plan-lent, answer-short, answer-refuse
 use borrow.Author.Needs.{needs}
 use Rattle.assignment.proofs.seats.in_choice_within.Statement.{statement}
 use Rattle.assignment.proofs.seats.in_choice_within.Tie as tie
-use Rattle.assignment.proofs.seats.in_choice_within.Reads as reads
-use Rattle.assignment.proofs.seats.in_choice_within.Lts as lts
 use Rattle.assignment.proofs.checks.plan_number.Reads as plan-number-reads
 use Rattle.assignment.proofs.seats.has_seat.Reads as has-seat-reads
 use Rattle.assignment.proofs.seats.in_choice.Reads as in-choice-reads
@@ -29,53 +27,41 @@ numbered c = let a = c .before .before .before .before .before .before .before .
 row : (c : tie.After-plan-number) → c .plan-number .result ≡ 0 → (let a = c .before .before .before .before .before .before .before .args in let n = dayOf (a .day .now) .slots in (a .chooser * n + n ≤ length (a .plan .now)) × (a .chooser * n + n ≤ 512))
 row c e = let a = c .before .before .before .before .before .before .before .args in asked-row (a .limits) (dayOf (a .day .now)) (a .plan .now) (a .chooser) _ (c .before .before .before .before .before .before .before .pre) (lent-zero (a .limits) (a .day .now) false _ (so (numbered c) e) .zero)
 
--- src/seats.rt:49:9
 in-choice-requires : tie.Need-in-choice-requires
 in-choice-requires c κs = search needs
 
--- src/seats.rt:49:9
 returns : tie.Need-returns
 unfolding inChoiceLent
 returns c = answer-short _ _ _ _ (λ n. inChoice n false) (c .before .if1 .taken) (c .in-choice .ensures)
 
--- src/seats.rt:51:9
 slots-requires : tie.Need-slots-requires
 slots-requires c κs = search needs
 
--- src/seats.rt:52:18
 choosers-requires : tie.Need-choosers-requires
 choosers-requires c κs = search needs
 
--- src/seats.rt:52:59
 choices-requires : tie.Need-choices-requires
 choices-requires c κs = search needs
 
--- src/seats.rt:53:9
 plan-number-requires : tie.Need-plan-number-requires
 plan-number-requires c κs = search needs
 
--- src/seats.rt:55:9
 in-choice-requires-2 : tie.Need-in-choice-requires-2
 in-choice-requires-2 c κs = search needs
 
--- src/seats.rt:55:9
 returns-2 : tie.Need-returns-2
 unfolding inChoiceLent
 returns-2 c = answer-refused _ (λ n. inChoice n false) (numbered (c .before .before)) (c .before .if2 .taken) (c .in-choice2 .ensures)
 
--- src/seats.rt:57:40
 mul-has-seat : tie.Need-mul-has-seat
 mul-has-seat c = rw (c .before .before .before .before .slots .ensures) (omega (arith, row (c .before) (c .if2 .left) .1))
 
--- src/seats.rt:57:18
 has-seat-requires : tie.Need-has-seat-requires
 has-seat-requires c κs = rw (c .before .before .before .before .slots .ensures) (row (c .before) (c .if2 .left) .0)
 
--- src/seats.rt:57:5
 in-choice-requires-3 : tie.Need-in-choice-requires-3
 in-choice-requires-3 c κs = search needs
 
--- src/seats.rt:38:1
 returns-3 : tie.Need-returns-3
 unfolding inChoiceLent isInChoice
 returns-3 c = answer-done _ (so (numbered (c .before .before .before)) (c .before .before .if2 .left)) (c .in-choice3 .ensures ∙ ap (inChoice 0) (rw (c .before .before .before .before .before .before .slots .ensures) at (c .before .has-seat .ensures)))

@@ -2,20 +2,15 @@ use Rattle.input_data.specs.Numbers.{full-within}
 use borrow.Author.Needs.{needs}
 use Rattle.assignment_solver.proofs.beginning.begin.Statement.{statement}
 use Rattle.assignment_solver.proofs.beginning.begin.Tie as tie
-use Rattle.assignment_solver.proofs.beginning.begin.Reads as reads
-use Rattle.assignment_solver.proofs.beginning.begin.Lts as lts
 use Rattle.assignment_solver.proofs.beginning.begin_within.Reads as begin-within-reads
 use Rattle.input_data.proofs.full_day.Reads as full-day-reads
 
--- src/beginning.rt:189:9
 full-day-requires : tie.Need-full-day-requires
 full-day-requires c κs = search needs
 
--- src/beginning.rt:190:5
 begin-within-requires : tie.Need-begin-within-requires
 begin-within-requires c κs = rw (c .full-day .ensures) full-within
 
--- src/beginning.rt:179:1
 returns : tie.Need-returns
 returns c = rw (c .before .full-day .ensures) at (c .begin-within .ensures)
 

@@ -2,20 +2,15 @@ use Rattle.input_data.specs.Numbers.{full-within}
 use borrow.Author.Needs.{needs}
 use Rattle.assignment_solver.proofs.telling.tell.Statement.{statement}
 use Rattle.assignment_solver.proofs.telling.tell.Tie as tie
-use Rattle.assignment_solver.proofs.telling.tell.Reads as reads
-use Rattle.assignment_solver.proofs.telling.tell.Lts as lts
 use Rattle.assignment_solver.proofs.telling.tell_within.Reads as tell-within-reads
 use Rattle.input_data.proofs.full_day.Reads as full-day-reads
 
--- src/telling.rt:109:17
 full-day-requires : tie.Need-full-day-requires
 full-day-requires c κs = search needs
 
--- src/telling.rt:109:5
 tell-within-requires : tie.Need-tell-within-requires
 tell-within-requires c κs = rw (c .full-day .ensures) full-within
 
--- src/telling.rt:100:1
 returns : tie.Need-returns
 returns c = rw (c .before .full-day .ensures) at (c .tell-within .ensures)
 

@@ -6,30 +6,20 @@ use Rattle.constraint.specs.Negation.{negationOf}
 use borrow.Author.Needs.{needs}
 use Rattle.constraint.proofs.Constraint.negation.Statement.{statement}
 use Rattle.constraint.proofs.Constraint.negation.Tie as tie
-use Rattle.constraint.proofs.Constraint.negation.Reads as reads
-use Rattle.constraint.proofs.Constraint.negation.Lts as lts
-use Rattle.constraint.proofs.Constraint.negated_with.Reads as negated-with-reads
-use Rattle.constraint.proofs.Constraint.size_limit_negation.Reads as size-limit-negation-reads
-use Rattle.constraint.proofs.ConstraintType.number.Reads as number-reads
 
--- src/lib.rt:359:12
 number-requires : tie.Need-number-requires
 number-requires c κs = search needs
 
--- src/lib.rt:360:13
 size-limit-negation-requires : tie.Need-size-limit-negation-requires
 size-limit-negation-requires c κs = search needs
 
--- src/lib.rt:360:13
 returns : tie.Need-returns
 unfolding negationOf
 returns c = simp (so (c .before .before .number .ensures) (c .before .if1 .taken)) (c .size-limit-negation .ensures)
 
--- src/lib.rt:362:9
 negated-with-requires : tie.Need-negated-with-requires
 negated-with-requires c κs = search needs
 
--- src/lib.rt:354:5
 returns-2 : tie.Need-returns-2
 unfolding negationOf
 returns-2 c = simp (ne-eqb (kindNumber (c .before .before .before .args .self .kind)) 6 (λ e. c .before .if1 .left (c .before .before .number .ensures ∙ e))) (c .negated-with .ensures)

@@ -4,49 +4,34 @@ use Rattle.constraint.specs.Negation.{negatedWith}
 use borrow.Author.Needs.{needs}
 use Rattle.constraint.proofs.Constraint.size_limit_negation.Statement.{statement}
 use Rattle.constraint.proofs.Constraint.size_limit_negation.Tie as tie
-use Rattle.constraint.proofs.Constraint.size_limit_negation.Reads as reads
-use Rattle.constraint.proofs.Constraint.size_limit_negation.Lts as lts
-use Rattle.constraint.proofs.Constraint.negated_with.Reads as negated-with-reads
-use Rattle.constraint.proofs.SlotSizeLimitOp.negation.Reads as negation-reads
-use Rattle.constraint.proofs.refuse.Reads as refuse-reads
 
--- src/lib.rt:345:38
 enum-told : tie.Need-enum-told
 enum-told c = search needs
 
--- src/lib.rt:345:38
 refuse-requires : tie.Need-refuse-requires
 refuse-requires c κs = search needs
 
--- src/lib.rt:346:43
 enum-told-2 : tie.Need-enum-told-2
 enum-told-2 c = search needs
 
--- src/lib.rt:346:43
 refuse-requires-2 : tie.Need-refuse-requires-2
 refuse-requires-2 c κs = search needs
 
--- src/lib.rt:347:46
 enum-known-extra : tie.Need-enum-known-extra
 enum-known-extra c = search needs
 
--- src/lib.rt:348:68
 negation-requires : tie.Need-negation-requires
 negation-requires c κs = search needs
 
--- src/lib.rt:348:17
 negated-with-requires : tie.Need-negated-with-requires
 negated-with-requires c κs = search needs
 
--- src/lib.rt:340:5
 returns : tie.Need-returns
 returns c = simp (c .before .enum-told .given .1) (c .refuse .ensures)
 
--- src/lib.rt:340:5
 returns-2 : tie.Need-returns-2
 returns-2 c = simp (c .before .enum-told2 .given .1) (c .refuse2 .ensures)
 
--- src/lib.rt:340:5
 returns-3 : tie.Need-returns-3
 returns-3 c = simp (c .before .before .before .extra .given .1) (c .negated-with .ensures ∙ ap (λ o. negatedWith (c .before .before .before .before .before .args .self) (SlotSizeLimitOp o)) (c .before .negation .ensures))
 

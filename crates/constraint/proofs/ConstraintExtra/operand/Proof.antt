@@ -4,35 +4,25 @@ use Rattle.counting.specs.Signed.{back}
 use borrow.Author.Needs.{needs}
 use Rattle.constraint.proofs.ConstraintExtra.operand.Statement.{statement}
 use Rattle.constraint.proofs.ConstraintExtra.operand.Tie as tie
-use Rattle.constraint.proofs.ConstraintExtra.operand.Reads as reads
-use Rattle.constraint.proofs.ConstraintExtra.operand.Lts as lts
-use Rattle.constraint.proofs.SlotSizeLimitOp.number.Reads as number-reads
 
--- src/lib.rt:268:38
 enum-told : tie.Need-enum-told
 enum-told c = search needs
 
--- src/lib.rt:269:37
 enum-known-self : tie.Need-enum-known-self
 enum-known-self c = search needs
 
--- src/lib.rt:270:46
 enum-known-self-2 : tie.Need-enum-known-self-2
 enum-known-self-2 c = search needs
 
--- src/lib.rt:270:53
 number-requires : tie.Need-number-requires
 number-requires c κs = search needs
 
--- src/lib.rt:264:5
 returns : tie.Need-returns
 returns c = simp (c .enum-told .given .1)
 
--- src/lib.rt:264:5
 returns-2 : tie.Need-returns-2
 returns-2 c = simp (c .before .self .given .1) (back w32 (c .before .self .given .0 .0) (c .known-told .given .0 .1))
 
--- src/lib.rt:264:5
 returns-3 : tie.Need-returns-3
 returns-3 c = simp (c .before .before .self2 .given .1) (back w32 (c .number .result) (c .number .ok) ∙ c .number .ensures)
 

@@ -1,21 +1,12 @@
 -- Each arm knows the number by its bits; the last knows that it is none of them.
-use mathlib.Core.Path.{_≡_, sym, _∙_}
-use mathlib.Core.Bool.{false}
-use Prim.Native.Nat.{_<_}
 use native.Mathlib.Omega.{arith}
-use borrow.Author.Tests.{ne-eqb}
-use lib.IntN.{ℤ, pos, negsuc}
-use lib.Signed.{mag}
+use lib.IntN.{pos, negsuc}
 use mir.Syntax.{w32}
-use mir.Val.{ofZ}
 use Rattle.counting.specs.Ints.{eqZ}
-use Rattle.counting.specs.Signed.{bits-same, bits-eqb}
+use Rattle.counting.specs.Signed.{bits-same, bits-differ}
 use Rattle.constraint.specs.Cases.{operatorOf}
 use Rattle.constraint.proofs.numbers.negated_operator.Statement.{statement}
 use Rattle.constraint.proofs.numbers.negated_operator.Tie as tie
-
-differs : (z y : ℤ) → mag z < 2147483648 → mag y < 2147483648 → (ofZ w32 z ≡ ofZ w32 y → ⊥) → eqZ z y ≡ false
-differs z y h k n = sym (bits-eqb w32 z y h k) ∙ ne-eqb _ _ n
 
 pub negated-operator-spec : {M : Type 1} → statement M
 unfolding operatorOf eqZ
@@ -28,4 +19,4 @@ negated-operator-spec =
     (λ c. simp (bits-same w32 (c .before .args .number) (negsuc 0) (c .before .fits .number .sfits) (omega arith) (c .match .keys4)))
     (λ c. simp (bits-same w32 (c .before .args .number) (negsuc 1) (c .before .fits .number .sfits) (omega arith) (c .match .keys5)))
     (λ c. simp (bits-same w32 (c .before .args .number) (negsuc 2) (c .before .fits .number .sfits) (omega arith) (c .match .keys6)))
-    (λ c. simp (differs (c .before .args .number) (pos 1) (c .before .fits .number .sfits) (omega arith) (c .match .rest .0 .0 .0 .0 .0 .1), differs (c .before .args .number) (pos 2) (c .before .fits .number .sfits) (omega arith) (c .match .rest .0 .0 .0 .0 .1), differs (c .before .args .number) (pos 3) (c .before .fits .number .sfits) (omega arith) (c .match .rest .0 .0 .0 .1), differs (c .before .args .number) (negsuc 0) (c .before .fits .number .sfits) (omega arith) (c .match .rest .0 .0 .1), differs (c .before .args .number) (negsuc 1) (c .before .fits .number .sfits) (omega arith) (c .match .rest .0 .1), differs (c .before .args .number) (negsuc 2) (c .before .fits .number .sfits) (omega arith) (c .match .rest .1))))
+    (λ c. simp (bits-differ w32 (c .before .args .number) (pos 1) (c .before .fits .number .sfits) (omega arith) (c .match .rest .0 .0 .0 .0 .0 .1), bits-differ w32 (c .before .args .number) (pos 2) (c .before .fits .number .sfits) (omega arith) (c .match .rest .0 .0 .0 .0 .1), bits-differ w32 (c .before .args .number) (pos 3) (c .before .fits .number .sfits) (omega arith) (c .match .rest .0 .0 .0 .1), bits-differ w32 (c .before .args .number) (negsuc 0) (c .before .fits .number .sfits) (omega arith) (c .match .rest .0 .0 .1), bits-differ w32 (c .before .args .number) (negsuc 1) (c .before .fits .number .sfits) (omega arith) (c .match .rest .0 .1), bits-differ w32 (c .before .args .number) (negsuc 2) (c .before .fits .number .sfits) (omega arith) (c .match .rest .1))))

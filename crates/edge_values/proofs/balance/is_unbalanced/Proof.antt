@@ -6,20 +6,15 @@ use Rattle.counting.specs.Signed.{back}
 use borrow.Author.Needs.{needs}
 use Rattle.edge_values.proofs.balance.is_unbalanced.Statement.{statement}
 use Rattle.edge_values.proofs.balance.is_unbalanced.Tie as tie
-use Rattle.edge_values.proofs.balance.is_unbalanced.Reads as reads
-use Rattle.edge_values.proofs.balance.is_unbalanced.Lts as lts
 use Rattle.counting.proofs.difference.Reads as difference-reads
 use Rattle.counting.proofs.same.Reads as same-reads
 
--- src/balance.rt:53:21
 difference-requires : tie.Need-difference-requires
 difference-requires c κs = search needs
 
--- src/balance.rt:53:6
 same-requires : tie.Need-same-requires
 same-requires c κs = search needs
 
--- src/balance.rt:49:1
 returns : tie.Need-returns
 returns c = ap not (c .same .ensures ∙ ap₂ eqZ (back w32 _ (c .before .difference .ok) ∙ c .before .difference .ensures) (back w32 _ (c .before .before .fits .supply .sfits)))
 

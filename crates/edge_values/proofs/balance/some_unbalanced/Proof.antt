@@ -4,20 +4,15 @@ use Rattle.edge_values.specs.Balance.{flows-small, balance-is}
 use borrow.Author.Needs.{needs}
 use Rattle.edge_values.proofs.balance.some_unbalanced.Statement.{statement}
 use Rattle.edge_values.proofs.balance.some_unbalanced.Tie as tie
-use Rattle.edge_values.proofs.balance.some_unbalanced.Reads as reads
-use Rattle.edge_values.proofs.balance.some_unbalanced.Lts as lts
 use Rattle.edge_values.proofs.balance.add_flows.Reads as add-flows-reads
 use Rattle.edge_values.proofs.balance.sums_unbalanced.Reads as sums-unbalanced-reads
 
--- src/balance.rt:88:5
 add-flows-requires : tie.Need-add-flows-requires
 add-flows-requires c κs = search needs
 
--- src/balance.rt:89:5
 sums-unbalanced-requires : tie.Need-sums-unbalanced-requires
 sums-unbalanced-requires c κs = let p = c .before .before .before .before .before .before .before .pre in let f = c .before .before .add-flows .ensures in record { few = p .few-nodes; supplies-long = p .supplies-long; outs-small = λ v h. omega (arith, p .few-nodes, flows-small (f .0) (p .few-edges) v (omega (arith, p .few-nodes))); ins-small = λ v h. omega (arith, p .few-nodes, flows-small (f .1) (p .few-edges) v (omega (arith, p .few-nodes))) }
 
--- src/balance.rt:75:1
 returns : tie.Need-returns
 returns c = c .sums-unbalanced .ensures ∙ balance-is _ _ _ _ _ _ _ _ (c .before .before .before .before .before .before .before .before .pre .few-nodes) (c .before .before .before .add-flows .ensures .0) (c .before .before .before .add-flows .ensures .1)
 

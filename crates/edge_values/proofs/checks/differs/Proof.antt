@@ -6,15 +6,11 @@ use Rattle.counting.specs.Signed.{back}
 use borrow.Author.Needs.{needs}
 use Rattle.edge_values.proofs.checks.differs.Statement.{statement}
 use Rattle.edge_values.proofs.checks.differs.Tie as tie
-use Rattle.edge_values.proofs.checks.differs.Reads as reads
-use Rattle.edge_values.proofs.checks.differs.Lts as lts
 use Rattle.counting.proofs.same.Reads as same-reads
 
--- src/checks.rt:35:6
 same-requires : tie.Need-same-requires
 same-requires c κs = search needs
 
--- src/checks.rt:32:1
 returns : tie.Need-returns
 returns c = ap not (c .same .ensures ∙ ap₂ eqZ (back w32 _ (c .before .fits .a .sfits)) (back w32 _ (c .before .fits .b .sfits)))
 

@@ -5,14 +5,10 @@ use Rattle.counting.specs.Signed.{back}
 use borrow.Author.Needs.{needs}
 use Rattle.edge_values.proofs.checks.is_outside.Statement.{statement}
 use Rattle.edge_values.proofs.checks.is_outside.Tie as tie
-use Rattle.edge_values.proofs.checks.is_outside.Reads as reads
-use Rattle.edge_values.proofs.checks.is_outside.Lts as lts
 
--- src/checks.rt:15:21
 cast-result : tie.Need-cast-result
 cast-result c = search needs
 
--- src/checks.rt:11:1
 returns : tie.Need-returns
 returns c = rw (back w32 (c .args .value) (c .fits .value .sfits), toZ-pos w32 {n = c .args .max} (omega arith))
 

@@ -3,14 +3,13 @@ use mathlib.Core.Path.{_≡_, sym, ap, _∙_}
 use mathlib.Core.Bool.{false, _||_}
 use native.Mathlib.Omega.{arith}
 use borrow.Author.Needs.{needs}
-use Rattle.counting.specs.Fold.{anyTo, fold-none, fold-at}
+use Rattle.counting.specs.Fold.{anyTo}
+use Rattle.counting.specs.FoldLaws.{fold-none, fold-at}
 use Rattle.counting.specs.Tests.{any-more}
 use Rattle.edge_values.specs.Values.{isUneven}
 use Rattle.edge_values.specs.Checks.{startAt, unevenPart, start-none, start-more, part-is, part-named}
 use Rattle.edge_values.proofs.checks.some_uneven.Statement.{statement}
 use Rattle.edge_values.proofs.checks.some_uneven.Tie as tie
-use Rattle.edge_values.proofs.checks.some_uneven.Reads as reads
-use Rattle.edge_values.proofs.checks.some_uneven.Lts as lts
 use Rattle.edge_values.proofs.checks.is_uneven.Reads as is-uneven-reads
 
 abbrev Inv-loop : tie.InvT-loop
@@ -19,55 +18,42 @@ Inv-loop groups entries ends values bad₀ start₀ g₀ bad start g = (g ≤ gr
 abbrev μ-loop : tie.MeasureT-loop
 μ-loop groups entries ends values bad₀ start₀ g₀ bad start g = groups - g
 
--- src/checks.rt:81:5
 loop-holds : tie.Need-loop-holds Inv-loop μ-loop
 loop-holds c = (search needs, start-none _, sym (fold-none _||_ false _))
 
--- src/checks.rt:82:20
 mul-stop : tie.Need-mul-stop Inv-loop μ-loop
 mul-stop c = search needs
 
--- src/checks.rt:82:20
 shared-slice-read-stop : tie.Need-shared-slice-read-stop Inv-loop μ-loop
 shared-slice-read-stop c = omega (arith, c .before .before .before .before .before .pre .ends-long)
 
--- src/checks.rt:82:20
 cast-stop : tie.Need-cast-stop Inv-loop μ-loop
 cast-stop c = omega (arith, c .shared-slice-known3 .given (c .before .before .loop .g))
 
--- src/checks.rt:83:31
 mul-is-uneven : tie.Need-mul-is-uneven Inv-loop μ-loop
 mul-is-uneven c = let p = c .before .before .before .before .before .pre in let t = c .before .loop-test .taken in omega (arith, p .ascend _ t, p .inside _ t, c .before .before .loop .inv .1)
 
--- src/checks.rt:83:31
 sub-is-uneven : tie.Need-sub-is-uneven Inv-loop μ-loop
 sub-is-uneven c = let p = c .before .before .before .before .before .pre in let t = c .before .loop-test .taken in omega (arith, p .ascend _ t, p .inside _ t, c .before .before .loop .inv .1)
 
--- src/checks.rt:83:31
 part-is-uneven-start : tie.Need-part-is-uneven-start Inv-loop μ-loop
 part-is-uneven-start c = let p = c .before .before .before .before .before .pre in let t = c .before .loop-test .taken in omega (arith, p .ascend _ t, p .inside _ t, c .before .before .loop .inv .1)
 
--- src/checks.rt:83:31
 part-is-uneven-end : tie.Need-part-is-uneven-end Inv-loop μ-loop
 part-is-uneven-end c = let p = c .before .before .before .before .before .pre in let t = c .before .loop-test .taken in omega (arith, p .ascend _ t, p .inside _ t, c .before .before .loop .inv .1)
 
--- src/checks.rt:83:21
 is-uneven-requires : tie.Need-is-uneven-requires Inv-loop μ-loop
 is-uneven-requires c κs = part-named (c .before .before .before .before .before .before .pre) _ (c .before .before .loop-test .taken) _ (c .before .before .before .loop .inv .1)
 
--- src/checks.rt:85:9
 add-g : tie.Need-add-g Inv-loop μ-loop
 add-g c = search needs
 
--- src/checks.rt:81:5
 loop-less : tie.Need-loop-less Inv-loop μ-loop
 loop-less c = search needs
 
--- src/checks.rt:81:5
 loop-again : tie.Need-loop-again Inv-loop μ-loop
 loop-again c = (search needs, start-more _ _, any-more _ _ (c .before .before .before .before .loop .inv .2) (c .is-uneven .ensures ∙ ap (isUneven (c .before .before .before .before .before .before .before .args .values .now)) (part-is _ _ _ (c .before .before .before .before .loop .inv .1))))
 
--- src/checks.rt:74:1
 returns : tie.Need-returns Inv-loop μ-loop
 returns c = c .before .loop .inv .2 ∙ fold-at _ _ _ (omega arith)
 

@@ -3,19 +3,14 @@ use Rattle.input_data.specs.BytesLaws.{groups-of}
 use borrow.Author.Needs.{needs}
 use Rattle.input_data.proofs.bytes.groups.Statement.{statement}
 use Rattle.input_data.proofs.bytes.groups.Tie as tie
-use Rattle.input_data.proofs.bytes.groups.Reads as reads
-use Rattle.input_data.proofs.bytes.groups.Lts as lts
 use Rattle.input_data.proofs.bytes.word.Reads as word-reads
 
--- src/lib.rt:39:5
 word-requires : tie.Need-word-requires
 word-requires c κs = search needs
 
--- src/lib.rt:39:5
 cast-result : tie.Need-cast-result
 cast-result c = search needs
 
--- src/lib.rt:35:1
 returns : tie.Need-returns
 returns c = c .word .ensures ∙ groups-of _
 

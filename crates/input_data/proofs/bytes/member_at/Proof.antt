@@ -4,23 +4,17 @@ use Rattle.input_data.specs.BytesLaws.{member-of}
 use borrow.Author.Needs.{needs}
 use Rattle.input_data.proofs.bytes.member_at.Statement.{statement}
 use Rattle.input_data.proofs.bytes.member_at.Tie as tie
-use Rattle.input_data.proofs.bytes.member_at.Reads as reads
-use Rattle.input_data.proofs.bytes.member_at.Lts as lts
 use Rattle.input_data.proofs.bytes.word.Reads as word-reads
 
--- src/bytes.rt:123:21
 mul-word : tie.Need-mul-word
 mul-word c = search needs
 
--- src/bytes.rt:123:15
 add-word : tie.Need-add-word
 add-word c = search needs
 
--- src/bytes.rt:123:5
 word-requires : tie.Need-word-requires
 word-requires c κs = search needs
 
--- src/bytes.rt:119:1
 returns : tie.Need-returns
 returns c = c .word .ensures ∙ sym (member-of _ _ (omega arith))
 

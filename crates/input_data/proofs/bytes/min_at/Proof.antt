@@ -4,23 +4,17 @@ use Rattle.input_data.specs.BytesLaws.{min-of}
 use borrow.Author.Needs.{needs}
 use Rattle.input_data.proofs.bytes.min_at.Statement.{statement}
 use Rattle.input_data.proofs.bytes.min_at.Tie as tie
-use Rattle.input_data.proofs.bytes.min_at.Reads as reads
-use Rattle.input_data.proofs.bytes.min_at.Lts as lts
 use Rattle.input_data.proofs.bytes.word.Reads as word-reads
 
--- src/lib.rt:46:20
 mul-word : tie.Need-mul-word
 mul-word c = search needs
 
--- src/lib.rt:46:15
 add-word : tie.Need-add-word
 add-word c = search needs
 
--- src/lib.rt:46:5
 word-requires : tie.Need-word-requires
 word-requires c κs = search needs
 
--- src/lib.rt:42:1
 returns : tie.Need-returns
 returns c = c .word .ensures ∙ sym (min-of _ _ (omega arith))
 

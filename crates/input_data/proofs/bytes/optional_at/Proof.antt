@@ -4,19 +4,14 @@ use Rattle.input_data.specs.BytesLaws.{optional-of}
 use borrow.Author.Needs.{needs}
 use Rattle.input_data.proofs.bytes.optional_at.Statement.{statement}
 use Rattle.input_data.proofs.bytes.optional_at.Tie as tie
-use Rattle.input_data.proofs.bytes.optional_at.Reads as reads
-use Rattle.input_data.proofs.bytes.optional_at.Lts as lts
 use Rattle.input_data.proofs.bytes.flag.Reads as flag-reads
 
--- src/bytes.rt:109:15
 add-flag : tie.Need-add-flag
 add-flag c = search needs
 
--- src/bytes.rt:109:5
 flag-requires : tie.Need-flag-requires
 flag-requires c κs = search needs
 
--- src/bytes.rt:105:1
 returns : tie.Need-returns
 returns c = c .flag .ensures ∙ sym (optional-of _ _ (omega arith))
 

@@ -1,4 +1,3 @@
-use mathlib.Core.Path.{_∙_}
 use native.Mathlib.Omega.{arith}
 use Prim.Native.Nat.{_-_}
 use mir.Syntax.{w32}
@@ -9,35 +8,26 @@ use Rattle.input_data.specs.BytesLaws.{low-fits, low-back}
 use borrow.Author.Needs.{needs}
 use Rattle.input_data.proofs.bytes.signed.Statement.{statement}
 use Rattle.input_data.proofs.bytes.signed.Tie as tie
-use Rattle.input_data.proofs.bytes.signed.Reads as reads
-use Rattle.input_data.proofs.bytes.signed.Lts as lts
 
--- src/lib.rt:30:16
 cast-result : tie.Need-cast-result
 cast-result c = search needs
 
--- src/lib.rt:30:9
 returns : tie.Need-returns
 unfolding signedOf
 returns c = simp (lt-ltb _ _ (c .if1 .taken))
 
--- src/lib.rt:32:8
 sub-result : tie.Need-sub-result
 sub-result c = search needs
 
--- src/lib.rt:32:7
 cast-result-2 : tie.Need-cast-result-2
 cast-result-2 c = search needs
 
--- src/lib.rt:32:5
 sub-result-2 : tie.Need-sub-result-2
 sub-result-2 c = sub-fits w32 0 (4294967295 - c .before .args .x) (omega arith) (omega arith)
 
--- src/lib.rt:32:5
 sub-result-3 : tie.Need-sub-result-3
 sub-result-3 c = low-fits (4294967295 - c .before .args .x) (omega arith)
 
--- src/lib.rt:26:1
 returns-2 : tie.Need-returns-2
 unfolding signedOf
 returns-2 c = simp (le-ltb _ _ (c .if1 .left)) (low-back (4294967295 - c .before .args .x) (omega arith))

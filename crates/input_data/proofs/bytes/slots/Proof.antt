@@ -3,19 +3,14 @@ use Rattle.input_data.specs.BytesLaws.{slots-of}
 use borrow.Author.Needs.{needs}
 use Rattle.input_data.proofs.bytes.slots.Statement.{statement}
 use Rattle.input_data.proofs.bytes.slots.Tie as tie
-use Rattle.input_data.proofs.bytes.slots.Reads as reads
-use Rattle.input_data.proofs.bytes.slots.Lts as lts
 use Rattle.input_data.proofs.bytes.word.Reads as word-reads
 
--- src/lib.rt:39:5
 word-requires : tie.Need-word-requires
 word-requires c κs = search needs
 
--- src/lib.rt:39:5
 cast-result : tie.Need-cast-result
 cast-result c = search needs
 
--- src/lib.rt:35:1
 returns : tie.Need-returns
 returns c = c .word .ensures ∙ slots-of _
 

@@ -2,79 +2,59 @@ use Rattle.input_data.specs.Bytes.{wordAt}
 use borrow.Author.Needs.{needs}
 use Rattle.input_data.proofs.bytes.word.Statement.{statement}
 use Rattle.input_data.proofs.bytes.word.Tie as tie
-use Rattle.input_data.proofs.bytes.word.Reads as reads
-use Rattle.input_data.proofs.bytes.word.Lts as lts
 use Rattle.input_data.proofs.bytes.wide.Reads as wide-reads
 
--- src/lib.rt:22:10
 shared-slice-read-wide : tie.Need-shared-slice-read-wide
 shared-slice-read-wide c = search needs
 
--- src/lib.rt:22:5
 wide-requires : tie.Need-wide-requires
 wide-requires c κs = search needs
 
--- src/lib.rt:22:32
 add-wide : tie.Need-add-wide
 add-wide c = search needs
 
--- src/lib.rt:22:30
 shared-slice-read-wide-2 : tie.Need-shared-slice-read-wide-2
 shared-slice-read-wide-2 c = search needs
 
--- src/lib.rt:22:25
 wide-requires-2 : tie.Need-wide-requires-2
 wide-requires-2 c κs = search needs
 
--- src/lib.rt:22:19
 mul-result : tie.Need-mul-result
 mul-result c = search needs
 
--- src/lib.rt:22:5
 add-result : tie.Need-add-result
 add-result c = search needs
 
--- src/lib.rt:22:58
 add-wide-2 : tie.Need-add-wide-2
 add-wide-2 c = search needs
 
--- src/lib.rt:22:56
 shared-slice-read-wide-3 : tie.Need-shared-slice-read-wide-3
 shared-slice-read-wide-3 c = search needs
 
--- src/lib.rt:22:51
 wide-requires-3 : tie.Need-wide-requires-3
 wide-requires-3 c κs = search needs
 
--- src/lib.rt:22:43
 mul-result-2 : tie.Need-mul-result-2
 mul-result-2 c = search needs
 
--- src/lib.rt:22:5
 add-result-2 : tie.Need-add-result-2
 add-result-2 c = search needs
 
--- src/lib.rt:22:87
 add-wide-3 : tie.Need-add-wide-3
 add-wide-3 c = search needs
 
--- src/lib.rt:22:85
 shared-slice-read-wide-4 : tie.Need-shared-slice-read-wide-4
 shared-slice-read-wide-4 c = search needs
 
--- src/lib.rt:22:80
 wide-requires-4 : tie.Need-wide-requires-4
 wide-requires-4 c κs = search needs
 
--- src/lib.rt:22:69
 mul-result-3 : tie.Need-mul-result-3
 mul-result-3 c = search needs
 
--- src/lib.rt:22:5
 add-result-3 : tie.Need-add-result-3
 add-result-3 c = search needs
 
--- src/lib.rt:18:1
 returns : tie.Need-returns
 unfolding wordAt
 returns c = search needs

@@ -2,20 +2,15 @@ use Rattle.input_data.specs.Bytes.{listIn, dayOf}
 use borrow.Author.Needs.{needs}
 use Rattle.input_data.proofs.decode.assignment_of.Statement.{statement}
 use Rattle.input_data.proofs.decode.assignment_of.Tie as tie
-use Rattle.input_data.proofs.decode.assignment_of.Reads as reads
-use Rattle.input_data.proofs.decode.assignment_of.Lts as lts
 use Rattle.input_data.proofs.bytes.assignment_count.Reads as assignment-count-reads
 use Rattle.input_data.proofs.decode.entries_of.Reads as entries-of-reads
 
--- src/decode.rt:121:16
 assignment-count-requires : tie.Need-assignment-count-requires
 assignment-count-requires c κs = search needs
 
--- src/decode.rt:122:18
 entries-of-requires : tie.Need-entries-of-requires
 entries-of-requires c κs = search needs
 
--- src/decode.rt:116:1
 returns : tie.Need-returns
 unfolding dayOf listIn
 returns c = simp (c .entries-of .ensures, c .before .assignment-count .ensures)

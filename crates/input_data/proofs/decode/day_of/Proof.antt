@@ -1,8 +1,6 @@
 use borrow.Author.Needs.{needs}
 use Rattle.input_data.proofs.decode.day_of.Statement.{statement}
 use Rattle.input_data.proofs.decode.day_of.Tie as tie
-use Rattle.input_data.proofs.decode.day_of.Reads as reads
-use Rattle.input_data.proofs.decode.day_of.Lts as lts
 use Rattle.input_data.proofs.bytes.choices.Reads as choices-reads
 use Rattle.input_data.proofs.bytes.choosers.Reads as choosers-reads
 use Rattle.input_data.proofs.bytes.groups.Reads as groups-reads
@@ -16,55 +14,42 @@ use Rattle.input_data.proofs.decode.mins_of.Reads as mins-of-reads
 use Rattle.input_data.proofs.decode.optional_of.Reads as optional-of-reads
 use Rattle.input_data.proofs.decode.scheduling_of.Reads as scheduling-of-reads
 
--- src/decode.rt:132:19
 choosers-requires : tie.Need-choosers-requires
 choosers-requires c κs = search needs
 
--- src/decode.rt:133:18
 choices-requires : tie.Need-choices-requires
 choices-requires c κs = search needs
 
--- src/decode.rt:134:16
 slots-requires : tie.Need-slots-requires
 slots-requires c κs = search needs
 
--- src/decode.rt:135:25
 max-preference-requires : tie.Need-max-preference-requires
 max-preference-requires c κs = search needs
 
--- src/decode.rt:136:15
 mins-of-requires : tie.Need-mins-of-requires
 mins-of-requires c κs = search needs
 
--- src/decode.rt:137:15
 maxs-of-requires : tie.Need-maxs-of-requires
 maxs-of-requires c κs = search needs
 
--- src/decode.rt:138:19
 optional-of-requires : tie.Need-optional-of-requires
 optional-of-requires c κs = search needs
 
--- src/decode.rt:139:21
 scheduling-of-requires : tie.Need-scheduling-of-requires
 scheduling-of-requires c κs = search needs
 
--- src/decode.rt:140:21
 assignment-of-requires : tie.Need-assignment-of-requires
 assignment-of-requires c κs = search needs
 
--- src/decode.rt:141:17
 groups-requires : tie.Need-groups-requires
 groups-requires c κs = search needs
 
--- src/decode.rt:142:18
 lengths-of-requires : tie.Need-lengths-of-requires
 lengths-of-requires c κs = search needs
 
--- src/decode.rt:143:18
 members-of-requires : tie.Need-members-of-requires
 members-of-requires c κs = search needs
 
--- src/decode.rt:127:1
 returns : tie.Need-returns
 returns c = simp (c .members-of .ensures, c .before .lengths-of .ensures, c .before .before .groups .ensures, c .before .before .before .assignment-of .ensures, c .before .before .before .before .scheduling-of .ensures, c .before .before .before .before .before .optional-of .ensures, c .before .before .before .before .before .before .maxs-of .ensures, c .before .before .before .before .before .before .before .mins-of .ensures, c .before .before .before .before .before .before .before .before .max-preference .ensures, c .before .before .before .before .before .before .before .before .before .slots .ensures, c .before .before .before .before .before .before .before .before .before .before .choices .ensures, c .before .before .before .before .before .before .before .before .before .before .before .choosers .ensures)
 

@@ -2,15 +2,11 @@ use Rattle.input_data.specs.Bytes.{dayOf}
 use borrow.Author.Needs.{needs}
 use Rattle.input_data.proofs.decode.members_of.Statement.{statement}
 use Rattle.input_data.proofs.decode.members_of.Tie as tie
-use Rattle.input_data.proofs.decode.members_of.Reads as reads
-use Rattle.input_data.proofs.decode.members_of.Lts as lts
 use Rattle.input_data.proofs.decode.words32.Reads as words32-reads
 
--- src/decode.rt:55:5
 words32-requires : tie.Need-words32-requires
 words32-requires c κs = search needs
 
--- src/decode.rt:51:1
 returns : tie.Need-returns
 unfolding dayOf
 returns c = c .words32 .ensures

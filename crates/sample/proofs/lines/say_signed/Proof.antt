@@ -1,7 +1,7 @@
 -- A number from 0 on is cast as it is; of a negative one, -1 - n is cast, which no i32 overflows.
 use mathlib.Core.Path.{_≡_, sym, ap, _∙_, subst}
 use mathlib.Core.Bool.{true, false}
-use Prim.Native.Nat.{ℕ, suc, _<_, _+_}
+use Prim.Native.Nat.{suc, _<_}
 use native.Mathlib.Omega.{arith}
 use borrow.Author.Tests.{le-ltb, le-leb}
 use lib.Dec.{T}

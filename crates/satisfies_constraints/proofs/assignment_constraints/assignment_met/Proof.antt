@@ -3,13 +3,13 @@ use mathlib.Core.Path.{_≡_, sym, _∙_}
 use mathlib.Core.Bool.{true, _&&_}
 use native.Mathlib.Omega.{arith}
 use borrow.Author.Needs.{needs}
-use Rattle.counting.specs.Fold.{allTo, fold-none, fold-at}
+use Rattle.counting.specs.Fold.{allTo}
+use Rattle.counting.specs.FoldLaws.{fold-none, fold-at}
 use Rattle.counting.specs.Tests.{all-more}
 use Rattle.input_data.specs.Bytes.{dayOf}
 use Rattle.input_data.specs.BytesLaws.{assignment-numbers-of}
-use Rattle.input_data.specs.Day.{numbersAt}
 use Rattle.satisfies_constraints.specs.Constraints.{assignmentAt}
-use Rattle.satisfies_constraints.specs.Laws.{plan-numbers, operands-numbers}
+use Rattle.satisfies_constraints.specs.ByNumber.{plan-numbers, operands-in}
 use Rattle.satisfies_constraints.proofs.assignment_constraints.assignment_met.Statement.{statement}
 use Rattle.satisfies_constraints.proofs.assignment_constraints.assignment_met.Tie as tie
 
@@ -25,8 +25,8 @@ meets-plan-requires c κs =
     let s = c .before .before .before .before .before .before .before .before in
     let p = s .pre in
     let h : x .j < dayOf (s .args .day .now) .assignment .count = omega (arith, x .inv, c .before .before .before .loop-test) in
-    let e = c .before .before .numbers-at .ensures ∙ assignment-numbers-of (s .args .day .now) (x .j) (omega (arith, p .read .count)) in
-    (p .inside, p .entries, rw e (operands-numbers (s .args .choosers) (numbersAt (dayOf (s .args .day .now) .assignment) (x .j)) (p .read .numbers .each (x .j) h) (p .list .each (x .j) h)))
+    let e = c .before .before .numbers-at .ensures ∙ assignment-numbers-of (s .args .day .now) (x .j) (omega (arith, p .accepted .count)) in
+    (p .inside, p .entries, rw e (operands-in (p .accepted) (x .j) h))
 
 loop-again : tie.Need-loop-again Inv-loop μ-loop
 loop-again c =
@@ -35,8 +35,8 @@ loop-again c =
     let a = s .args in
     let p = s .pre in
     let h : x .j < dayOf (a .day .now) .assignment .count = omega (arith, x .inv, c .before .before .before .before .loop-test) in
-    let e = c .before .before .before .numbers-at .ensures ∙ assignment-numbers-of (a .day .now) (x .j) (omega (arith, p .read .count)) in
-    (search needs, x .inv .1, all-more _ _ (x .inv .2) ((rw e at (c .meets-plan .ensures)) ∙ plan-numbers (a .choosers) (a .choices) (a .slots) (a .entries .now) (a .plan .now) (numbersAt (dayOf (a .day .now) .assignment) (x .j)) (p .read .numbers .each (x .j) h)))
+    let e = c .before .before .before .numbers-at .ensures ∙ assignment-numbers-of (a .day .now) (x .j) (omega (arith, p .accepted .count)) in
+    (search needs, x .inv .1, all-more _ _ (x .inv .2) ((rw e at (c .meets-plan .ensures)) ∙ plan-numbers (p .accepted) (x .j) h (a .entries .now) (a .plan .now)))
 
 returns : tie.Need-returns Inv-loop μ-loop
 returns c = c .before .loop .inv .2 ∙ fold-at _ _ _ (omega arith)

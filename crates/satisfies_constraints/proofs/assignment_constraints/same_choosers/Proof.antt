@@ -5,16 +5,14 @@ use mathlib.Core.Bool.{true, _&&_}
 use native.Mathlib.Omega.{arith}
 use borrow.Author.Needs.{needs}
 use lib.Dec.{eqb}
-use Rattle.counting.specs.Fold.{allTo, fold-none, fold-at}
+use Rattle.counting.specs.Fold.{allTo}
+use Rattle.counting.specs.FoldLaws.{fold-none, fold-at}
 use Rattle.satisfies_constraints.specs.Constraints.{asOften, sameChoosers}
 use Rattle.satisfies_constraints.specs.Laws.{row-in}
 use Rattle.satisfies_constraints.proofs.assignment_constraints.same_choosers.Statement.{
   statement,
 }
 use Rattle.satisfies_constraints.proofs.assignment_constraints.same_choosers.Tie as tie
-use Rattle.satisfies_constraints.proofs.assignment_constraints.same_choosers.Reads as reads
-use Rattle.satisfies_constraints.proofs.assignment_constraints.same_choosers.Lts as lts
-use Rattle.satisfies_constraints.proofs.assignment_constraints.times_in.Reads as times-in-reads
 
 abbrev Inv-loop : tie.InvT-loop
 Inv-loop choosers slots plan a b same₀ c₀ same c = (c ≤ choosers) × (same ≡ allTo c (asOften slots plan a b))
@@ -22,31 +20,24 @@ Inv-loop choosers slots plan a b same₀ c₀ same c = (c ≤ choosers) × (same
 abbrev μ-loop : tie.MeasureT-loop
 μ-loop choosers slots plan a b same₀ c₀ same c = choosers - c
 
--- src/assignment_constraints.rt:46:5
 loop-holds : tie.Need-loop-holds Inv-loop μ-loop
 loop-holds c = (search needs, sym (fold-none _&&_ true _))
 
--- src/assignment_constraints.rt:47:24
 times-in-requires : tie.Need-times-in-requires Inv-loop μ-loop
 times-in-requires c κs = row-in (c .before .before .before .pre) (omega (arith, c .loop-test))
 
--- src/assignment_constraints.rt:47:55
 times-in-requires-2 : tie.Need-times-in-requires-2 Inv-loop μ-loop
 times-in-requires-2 c κs = row-in (c .before .before .before .before .pre) (omega (arith, c .before .loop-test))
 
--- src/assignment_constraints.rt:48:9
 add-c : tie.Need-add-c Inv-loop μ-loop
 add-c c = search needs
 
--- src/assignment_constraints.rt:46:5
 loop-less : tie.Need-loop-less Inv-loop μ-loop
 loop-less c = search needs
 
--- src/assignment_constraints.rt:46:5
 loop-again : tie.Need-loop-again Inv-loop μ-loop
 loop-again c = (search needs, all-more _ _ (c .before .before .before .loop .inv .1) (ap₂ eqb (c .before .times-in .ensures) (c .times-in2 .ensures)))
 
--- src/assignment_constraints.rt:40:1
 returns : tie.Need-returns Inv-loop μ-loop
 unfolding sameChoosers
 returns c = c .before .loop .inv .1 ∙ fold-at _ _ _ (omega arith)

@@ -2,7 +2,8 @@ use Prim.Native.Nat.{_≤_, _-_, _+_}
 use mathlib.Core.Path.{_≡_, sym, _∙_}
 use native.Mathlib.Omega.{arith}
 use borrow.Author.Needs.{needs}
-use Rattle.counting.specs.Fold.{countTo, fold-none, fold-at}
+use Rattle.counting.specs.Fold.{countTo}
+use Rattle.counting.specs.FoldLaws.{fold-none, fold-at}
 use Rattle.counting.specs.Holds.{isOf}
 use Rattle.scheduling.specs.Schedule.{entryAt}
 use Rattle.satisfies_constraints.specs.Laws.{sum-more}

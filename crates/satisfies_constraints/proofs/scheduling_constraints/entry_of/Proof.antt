@@ -5,18 +5,13 @@ use Rattle.satisfies_constraints.proofs.scheduling_constraints.entry_of
   statement,
 }
 use Rattle.satisfies_constraints.proofs.scheduling_constraints.entry_of.Tie as tie
-use Rattle.satisfies_constraints.proofs.scheduling_constraints.entry_of.Reads as reads
-use Rattle.satisfies_constraints.proofs.scheduling_constraints.entry_of.Lts as lts
 
--- src/scheduling_constraints.rt:17:16
 element-copy-out-result : tie.Need-element-copy-out-result
 element-copy-out-result c = search needs
 
--- src/scheduling_constraints.rt:17:9
 returns : tie.Need-returns
 returns c = search needs
 
--- src/scheduling_constraints.rt:13:1
 returns-2 : tie.Need-returns-2
 returns-2 c = rw (List·getD-eq-default (c .before .args .entries .now) 0 {n = c .before .args .k} (omega (arith, c .before .pre)))
 

@@ -1,79 +1,57 @@
 use borrow.Author.Tests.{eq-eqb, ne-eqb}
 use mir.Syntax.{w32}
 use Rattle.counting.specs.Signed.{back}
-use Rattle.satisfies_constraints.specs.Constraints.{meetsSchedule}
+use Rattle.satisfies_constraints.specs.ByNumber.{meetsSchedule}
 use borrow.Author.Needs.{needs}
 use Rattle.satisfies_constraints.proofs.scheduling_constraints.meets_schedule.Statement.{
   statement,
 }
 use Rattle.satisfies_constraints.proofs.scheduling_constraints.meets_schedule.Tie as tie
-use Rattle.satisfies_constraints.proofs.scheduling_constraints.meets_schedule.Reads as reads
-use Rattle.satisfies_constraints.proofs.scheduling_constraints.meets_schedule.Lts as lts
-use Rattle.satisfies_constraints.proofs.scheduling_constraints.are_apart.Reads as are-apart-reads
-use Rattle.satisfies_constraints.proofs.scheduling_constraints.entry_of.Reads as entry-of-reads
-use Rattle.satisfies_constraints.proofs.scheduling_constraints.has_offset.Reads as has-offset-reads
-use Rattle.satisfies_constraints.proofs.scheduling_constraints.has_size.Reads as has-size-reads
-use Rattle.satisfies_constraints.proofs.scheduling_constraints.names.Reads as names-reads
-use Rattle.satisfies_constraints.proofs.scheduling_constraints.size_of.Reads as size-of-reads
 
--- src/scheduling_constraints.rt:101:9
 entry-of-requires : tie.Need-entry-of-requires
 entry-of-requires c κs = search needs
 
--- src/scheduling_constraints.rt:102:9
 entry-of-requires-2 : tie.Need-entry-of-requires-2
 entry-of-requires-2 c κs = search needs
 
--- src/scheduling_constraints.rt:104:9
 names-requires : tie.Need-names-requires
 names-requires c κs = search needs
 
--- src/scheduling_constraints.rt:104:9
 returns : tie.Need-returns
 unfolding meetsSchedule
 returns c = simp (eq-eqb _ _ (c .before .if1 .taken), c .names .ensures, c .before .before .before .entry-of .ensures)
 
--- src/scheduling_constraints.rt:107:17
 names-requires-2 : tie.Need-names-requires-2
 names-requires-2 c κs = search needs
 
--- src/scheduling_constraints.rt:107:9
 returns-2 : tie.Need-returns-2
 unfolding meetsSchedule
 returns-2 c = simp (ne-eqb _ _ (c .before .before .if1 .left), eq-eqb _ _ (c .before .if2 .taken), c .names2 .ensures, c .before .before .before .before .entry-of .ensures)
 
--- src/scheduling_constraints.rt:110:9
 returns-3 : tie.Need-returns-3
 unfolding meetsSchedule
 returns-3 c = simp (ne-eqb _ _ (c .before .before .if1 .left), ne-eqb _ _ (c .before .if2 .left), eq-eqb _ _ (c .if3 .taken), c .before .before .before .entry-of2 .ensures, c .before .before .before .before .entry-of .ensures)
 
--- src/scheduling_constraints.rt:113:9
 are-apart-requires : tie.Need-are-apart-requires
 are-apart-requires c κs = search needs
 
--- src/scheduling_constraints.rt:113:9
 returns-4 : tie.Need-returns-4
 unfolding meetsSchedule
 returns-4 c = simp (ne-eqb _ _ (c .before .before .before .before .if1 .left), ne-eqb _ _ (c .before .before .before .if2 .left), ne-eqb _ _ (c .before .before .if3 .left), eq-eqb _ _ (c .before .if4 .taken), c .are-apart .ensures, c .before .before .before .before .before .entry-of2 .ensures, c .before .before .before .before .before .before .entry-of .ensures)
 
--- src/scheduling_constraints.rt:116:9
 has-offset-requires : tie.Need-has-offset-requires
 has-offset-requires c κs = search needs
 
--- src/scheduling_constraints.rt:116:9
 returns-5 : tie.Need-returns-5
 unfolding meetsSchedule
 returns-5 c = simp (ne-eqb _ _ (c .before .before .before .before .before .if1 .left), ne-eqb _ _ (c .before .before .before .before .if2 .left), ne-eqb _ _ (c .before .before .before .if3 .left), ne-eqb _ _ (c .before .before .if4 .left), eq-eqb _ _ (c .before .if5 .taken), c .has-offset .ensures, c .before .before .before .before .before .before .entry-of2 .ensures, c .before .before .before .before .before .before .before .entry-of .ensures, back w32 (c .before .before .before .before .before .before .before .before .args .extra) (c .before .before .before .before .before .before .before .before .fits .extra .sfits))
 
--- src/scheduling_constraints.rt:118:21
 size-of-requires : tie.Need-size-of-requires
 size-of-requires c κs = (c .before .before .before .before .before .before .before .pre .0, c .before .before .before .before .before .before .before .pre .2 (c .before .before .before .before .if1 .left) (c .before .before .before .if2 .left) (c .before .before .if3 .left) (c .before .if4 .left) (c .if5 .left))
 
--- src/scheduling_constraints.rt:118:5
 has-size-requires : tie.Need-has-size-requires
 has-size-requires c κs = search needs
 
--- src/scheduling_constraints.rt:90:1
 returns-6 : tie.Need-returns-6
 unfolding meetsSchedule
 returns-6 c = simp (ne-eqb _ _ (c .before .before .before .before .before .before .if1 .left), ne-eqb _ _ (c .before .before .before .before .before .if2 .left), ne-eqb _ _ (c .before .before .before .before .if3 .left), ne-eqb _ _ (c .before .before .before .if4 .left), ne-eqb _ _ (c .before .before .if5 .left), c .has-size .ensures, c .before .size-of .ensures, back w32 (c .before .before .before .before .before .before .before .before .before .args .extra) (c .before .before .before .before .before .before .before .before .before .fits .extra .sfits))

@@ -2,27 +2,19 @@ use Rattle.satisfies_constraints.specs.Laws.{names-none, names-slot}
 use borrow.Author.Needs.{needs}
 use Rattle.satisfies_constraints.proofs.scheduling_constraints.names.Statement.{statement}
 use Rattle.satisfies_constraints.proofs.scheduling_constraints.names.Tie as tie
-use Rattle.satisfies_constraints.proofs.scheduling_constraints.names.Reads as reads
-use Rattle.satisfies_constraints.proofs.scheduling_constraints.names.Lts as lts
-use Rattle.scheduling.proofs.slot_in.Reads as slot-in-reads
 
--- src/scheduling_constraints.rt:31:9
 slot-in-requires : tie.Need-slot-in-requires
 slot-in-requires c κs = search needs
 
--- src/scheduling_constraints.rt:33:25
 enum-told : tie.Need-enum-told
 enum-told c = search needs
 
--- src/scheduling_constraints.rt:34:22
 enum-known-named : tie.Need-enum-known-named
 enum-known-named c = search needs
 
--- src/scheduling_constraints.rt:28:1
 returns : tie.Need-returns
 returns c = names-none (c .before .before .before .args .entry) (c .before .before .before .args .slot) (c .before .before .slot-in .ensures) (c .enum-told .given .1)
 
--- src/scheduling_constraints.rt:28:1
 returns-2 : tie.Need-returns-2
 returns-2 c = names-slot (c .before .before .before .before .args .entry) (c .before .before .before .before .args .slot) _ (c .before .before .before .slot-in .ensures) (c .before .named .given .1)
 

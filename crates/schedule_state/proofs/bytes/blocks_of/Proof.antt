@@ -6,8 +6,6 @@ use Rattle.counting.specs.Lists.{Filled, filled-none, filled-more, filled-all}
 use Rattle.schedule_state.specs.Bytes.{blockIn, stateIn}
 use Rattle.schedule_state.proofs.bytes.blocks_of.Statement.{statement}
 use Rattle.schedule_state.proofs.bytes.blocks_of.Tie as tie
-use Rattle.schedule_state.proofs.bytes.blocks_of.Reads as reads
-use Rattle.schedule_state.proofs.bytes.blocks_of.Lts as lts
 use Rattle.input_data.proofs.flag.Reads as flag-reads
 
 abbrev Inv-loop : tie.InvT-loop
@@ -16,35 +14,27 @@ Inv-loop state out₀ i₀ out i = (i ≤ 2048) × Filled (blockIn state) 2048 i
 abbrev μ-loop : tie.MeasureT-loop
 μ-loop state out₀ i₀ out i = 2048 - i
 
--- src/bytes.rt:43:5
 loop-holds : tie.Need-loop-holds Inv-loop μ-loop
 loop-holds c = (omega arith, filled-none _ _ _ refl)
 
--- src/bytes.rt:44:30
 add-flag : tie.Need-add-flag Inv-loop μ-loop
 add-flag c = search needs
 
--- src/bytes.rt:44:18
 flag-requires : tie.Need-flag-requires Inv-loop μ-loop
 flag-requires c κs = search needs
 
--- src/bytes.rt:44:9
 array-write-out : tie.Need-array-write-out Inv-loop μ-loop
 array-write-out c = search needs
 
--- src/bytes.rt:45:9
 add-i : tie.Need-add-i Inv-loop μ-loop
 add-i c = search needs
 
--- src/bytes.rt:43:5
 loop-less : tie.Need-loop-less Inv-loop μ-loop
 loop-less c = search needs
 
--- src/bytes.rt:43:5
 loop-again : tie.Need-loop-again Inv-loop μ-loop
 loop-again c = (omega arith, filled-more (omega arith) (c .flag .ensures) (c .before .before .loop .inv .1))
 
--- src/bytes.rt:37:1
 returns : tie.Need-returns Inv-loop μ-loop
 unfolding stateIn
 returns c = filled-all (omega arith) (c .before .loop .inv .1)

@@ -6,8 +6,6 @@ use Rattle.counting.specs.Lists.{Filled, filled-none, filled-more, filled-all}
 use Rattle.schedule_state.specs.Bytes.{coveredIn, stateIn}
 use Rattle.schedule_state.proofs.bytes.covered_of.Statement.{statement}
 use Rattle.schedule_state.proofs.bytes.covered_of.Tie as tie
-use Rattle.schedule_state.proofs.bytes.covered_of.Reads as reads
-use Rattle.schedule_state.proofs.bytes.covered_of.Lts as lts
 use Rattle.input_data.proofs.word.Reads as word-reads
 
 abbrev Inv-loop : tie.InvT-loop
@@ -16,43 +14,33 @@ Inv-loop state out₀ i₀ out i = (i ≤ 8) × Filled (coveredIn state) 8 i out
 abbrev μ-loop : tie.MeasureT-loop
 μ-loop state out₀ i₀ out i = 8 - i
 
--- src/bytes.rt:30:5
 loop-holds : tie.Need-loop-holds Inv-loop μ-loop
 loop-holds c = (omega arith, filled-none _ _ _ refl)
 
--- src/bytes.rt:31:35
 mul-word : tie.Need-mul-word Inv-loop μ-loop
 mul-word c = search needs
 
--- src/bytes.rt:31:30
 add-word : tie.Need-add-word Inv-loop μ-loop
 add-word c = search needs
 
--- src/bytes.rt:31:18
 word-requires : tie.Need-word-requires Inv-loop μ-loop
 word-requires c κs = search needs
 
--- src/bytes.rt:31:9
 mul-out : tie.Need-mul-out Inv-loop μ-loop
 mul-out c = search needs
 
--- src/bytes.rt:31:9
 array-write-out : tie.Need-array-write-out Inv-loop μ-loop
 array-write-out c = search needs
 
--- src/bytes.rt:32:9
 add-i : tie.Need-add-i Inv-loop μ-loop
 add-i c = search needs
 
--- src/bytes.rt:30:5
 loop-less : tie.Need-loop-less Inv-loop μ-loop
 loop-less c = search needs
 
--- src/bytes.rt:30:5
 loop-again : tie.Need-loop-again Inv-loop μ-loop
 loop-again c = (omega arith, filled-more (omega arith) (c .word .ensures) (c .before .before .loop .inv .1))
 
--- src/bytes.rt:24:1
 returns : tie.Need-returns Inv-loop μ-loop
 unfolding stateIn
 returns c = filled-all (omega arith) (c .before .loop .inv .1)

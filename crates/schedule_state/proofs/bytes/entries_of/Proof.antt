@@ -4,11 +4,9 @@ use mathlib.Core.Path.{refl, _∙_}
 use Prim.Native.Nat.{_≤_, _-_}
 use Rattle.counting.specs.Lists.{Filled, filled-none, filled-more, filled-all}
 use Rattle.scheduling.specs.Schedule.{entryAt}
-use Rattle.schedule_state.specs.Bytes.{entries-in}
+use Rattle.schedule_state.specs.BytesLaws.{entries-in}
 use Rattle.schedule_state.proofs.bytes.entries_of.Statement.{statement}
 use Rattle.schedule_state.proofs.bytes.entries_of.Tie as tie
-use Rattle.schedule_state.proofs.bytes.entries_of.Reads as reads
-use Rattle.schedule_state.proofs.bytes.entries_of.Lts as lts
 
 abbrev Inv-loop : tie.InvT-loop
 Inv-loop state out₀ i₀ out i = (i ≤ 32) × Filled (entryAt state) 32 i out
@@ -16,31 +14,24 @@ Inv-loop state out₀ i₀ out i = (i ≤ 32) × Filled (entryAt state) 32 i out
 abbrev μ-loop : tie.MeasureT-loop
 μ-loop state out₀ i₀ out i = 32 - i
 
--- src/bytes.rt:17:5
 loop-holds : tie.Need-loop-holds Inv-loop μ-loop
 loop-holds c = (omega arith, filled-none _ _ _ refl)
 
--- src/bytes.rt:18:18
 shared-slice-read-out : tie.Need-shared-slice-read-out Inv-loop μ-loop
 shared-slice-read-out c = search needs
 
--- src/bytes.rt:18:9
 array-write-out : tie.Need-array-write-out Inv-loop μ-loop
 array-write-out c = search needs
 
--- src/bytes.rt:19:9
 add-i : tie.Need-add-i Inv-loop μ-loop
 add-i c = search needs
 
--- src/bytes.rt:17:5
 loop-less : tie.Need-loop-less Inv-loop μ-loop
 loop-less c = search needs
 
--- src/bytes.rt:17:5
 loop-again : tie.Need-loop-again Inv-loop μ-loop
 loop-again c = (omega arith, filled-more (omega arith) refl (c .before .before .loop .inv .1))
 
--- src/bytes.rt:11:1
 returns : tie.Need-returns Inv-loop μ-loop
 returns c = filled-all (omega arith) (c .before .loop .inv .1) ∙ entries-in (c .before .before .args .state .now) (c .before .before .pre)
 

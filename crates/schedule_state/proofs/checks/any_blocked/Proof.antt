@@ -3,13 +3,12 @@ use borrow.Author.Needs.{needs}
 use mathlib.Core.Path.{_≡_, sym}
 use mathlib.Core.Bool.{false, _||_}
 use Prim.Native.Nat.{_≤_, _-_}
-use Rattle.counting.specs.Fold.{anyTo, fold-none}
+use Rattle.counting.specs.Fold.{anyTo}
+use Rattle.counting.specs.FoldLaws.{fold-none}
 use Rattle.counting.specs.Tests.{any-more}
 use Rattle.schedule_state.specs.Bytes.{blockIn}
 use Rattle.schedule_state.proofs.checks.any_blocked.Statement.{statement}
 use Rattle.schedule_state.proofs.checks.any_blocked.Tie as tie
-use Rattle.schedule_state.proofs.checks.any_blocked.Reads as reads
-use Rattle.schedule_state.proofs.checks.any_blocked.Lts as lts
 use Rattle.input_data.proofs.flag.Reads as flag-reads
 
 abbrev Inv-loop : tie.InvT-loop
@@ -18,31 +17,24 @@ Inv-loop state any₀ p₀ any p = (p ≤ 2048) × (any ≡ anyTo p (blockIn sta
 abbrev μ-loop : tie.MeasureT-loop
 μ-loop state any₀ p₀ any p = 2048 - p
 
--- src/checks.rt:82:5
 loop-holds : tie.Need-loop-holds Inv-loop μ-loop
 loop-holds c = (omega arith, sym (fold-none _||_ false _))
 
--- src/checks.rt:83:33
 add-flag : tie.Need-add-flag Inv-loop μ-loop
 add-flag c = search needs
 
--- src/checks.rt:83:21
 flag-requires : tie.Need-flag-requires Inv-loop μ-loop
 flag-requires c κs = search needs
 
--- src/checks.rt:84:9
 add-p : tie.Need-add-p Inv-loop μ-loop
 add-p c = search needs
 
--- src/checks.rt:82:5
 loop-less : tie.Need-loop-less Inv-loop μ-loop
 loop-less c = search needs
 
--- src/checks.rt:82:5
 loop-again : tie.Need-loop-again Inv-loop μ-loop
 loop-again c = (omega arith, any-more _ _ (c .before .before .loop .inv .1) (c .flag .ensures))
 
--- src/checks.rt:76:1
 returns : tie.Need-returns Inv-loop μ-loop
 returns c = let e : c .before .loop .p ≡ 2048 = omega arith in rw e at (c .before .loop .inv .1)
 

@@ -2,7 +2,7 @@ use mathlib.Core.Path.{sym, _∙_}
 use borrow.Author.Tests.{not-true}
 use Rattle.counting.specs.Tests.{so}
 use Rattle.input_data.specs.Bytes.{dayOf}
-use Rattle.schedule_state.specs.Blocks.{unfilled}
+use Rattle.blocks.specs.BlocksLaws.{unfilled}
 use Rattle.schedule_state.specs.Bytes.{stateIn}
 use Rattle.schedule_state.specs.Good.{none-misblocked, blocked-in}
 use borrow.Author.Needs.{needs}

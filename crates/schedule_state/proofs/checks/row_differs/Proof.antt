@@ -3,14 +3,14 @@ use borrow.Author.Needs.{needs}
 use mathlib.Core.Path.{_≡_, refl, sym, _∙_}
 use mathlib.Core.Bool.{false, _||_}
 use Prim.Native.Nat.{_≤_, _*_, _-_}
-use Rattle.counting.specs.Fold.{anyTo, fold-none}
+use Rattle.counting.specs.Fold.{anyTo}
+use Rattle.counting.specs.FoldLaws.{fold-none}
 use Rattle.counting.specs.Tests.{any-more}
-use Rattle.schedule_state.specs.Bytes.{stateIn, block-in}
+use Rattle.schedule_state.specs.Bytes.{stateIn}
+use Rattle.schedule_state.specs.BytesLaws.{block-in}
 use Rattle.schedule_state.specs.State.{cellsOf, misblockedAt}
 use Rattle.schedule_state.proofs.checks.row_differs.Statement.{statement}
 use Rattle.schedule_state.proofs.checks.row_differs.Tie as tie
-use Rattle.schedule_state.proofs.checks.row_differs.Reads as reads
-use Rattle.schedule_state.proofs.checks.row_differs.Lts as lts
 use Rattle.input_data.proofs.flag.Reads as flag-reads
 use Rattle.schedule_state.proofs.checks.is_unlike.Reads as is-unlike-reads
 
@@ -20,47 +20,36 @@ Inv-loop state right chooser choices base bad₀ k₀ bad k = (k ≤ choices) ×
 abbrev μ-loop : tie.MeasureT-loop
 μ-loop state right chooser choices base bad₀ k₀ bad k = choices - k
 
--- src/checks.rt:27:16
 mul-base : tie.Need-mul-base Inv-loop μ-loop
 mul-base c = search needs
 
--- src/checks.rt:30:5
 loop-holds : tie.Need-loop-holds Inv-loop μ-loop
 loop-holds c = (omega arith, refl, sym (fold-none _||_ false _))
 
--- src/checks.rt:31:18
 add-at : tie.Need-add-at Inv-loop μ-loop
 add-at c = search needs
 
--- src/checks.rt:32:43
 add-flag : tie.Need-add-flag Inv-loop μ-loop
 add-flag c = search needs
 
--- src/checks.rt:32:31
 flag-requires : tie.Need-flag-requires Inv-loop μ-loop
 flag-requires c κs = search needs
 
--- src/checks.rt:32:53
 element-copy-out-is-unlike : tie.Need-element-copy-out-is-unlike Inv-loop μ-loop
 element-copy-out-is-unlike c = search needs
 
--- src/checks.rt:32:21
 is-unlike-requires : tie.Need-is-unlike-requires Inv-loop μ-loop
 is-unlike-requires c κs = search needs
 
--- src/checks.rt:33:9
 add-k : tie.Need-add-k Inv-loop μ-loop
 add-k c = search needs
 
--- src/checks.rt:30:5
 loop-less : tie.Need-loop-less Inv-loop μ-loop
 loop-less c = search needs
 
--- src/checks.rt:30:5
 loop-again : tie.Need-loop-again Inv-loop μ-loop
 loop-again c = let v = c .before .before .before .before .loop .inv in (omega arith, v .1, any-more _ _ (v .2) (rw (c .before .before .flag .ensures ∙ sym (block-in (c .before .before .before .before .before .before .args .state .now) _ (omega arith)), v .1) at (c .is-unlike .ensures)))
 
--- src/checks.rt:23:1
 returns : tie.Need-returns Inv-loop μ-loop
 returns c = let e : c .before .loop .k ≡ c .before .before .before .args .choices = omega arith in rw e at (c .before .loop .inv .2)
 

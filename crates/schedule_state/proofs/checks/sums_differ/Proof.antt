@@ -5,14 +5,14 @@ use mathlib.Core.Path.{_≡_, sym, ap, _∙_}
 use mathlib.Core.Bool.{false, not, _||_}
 use lib.Dec.{eqb}
 use Prim.Native.Nat.{ℕ, _≤_, _-_}
-use Rattle.counting.specs.Fold.{anyTo, fold-none}
+use Rattle.counting.specs.Fold.{anyTo}
+use Rattle.counting.specs.FoldLaws.{fold-none}
 use Rattle.counting.specs.Tests.{any-more}
-use Rattle.schedule_state.specs.Bytes.{stateIn, covered-in}
+use Rattle.schedule_state.specs.Bytes.{stateIn}
+use Rattle.schedule_state.specs.BytesLaws.{covered-in}
 use Rattle.schedule_state.specs.State.{sumsOf, miscountedAt, miscountedIn}
 use Rattle.schedule_state.proofs.checks.sums_differ.Statement.{statement}
 use Rattle.schedule_state.proofs.checks.sums_differ.Tie as tie
-use Rattle.schedule_state.proofs.checks.sums_differ.Reads as reads
-use Rattle.schedule_state.proofs.checks.sums_differ.Lts as lts
 use Rattle.input_data.proofs.word.Reads as word-reads
 
 abbrev Inv-loop : tie.InvT-loop
@@ -21,43 +21,33 @@ Inv-loop state right slots bad₀ s₀ bad s = (s ≤ slots) × (bad ≡ anyTo s
 abbrev μ-loop : tie.MeasureT-loop
 μ-loop state right slots bad₀ s₀ bad s = slots - s
 
--- src/checks.rt:116:5
 loop-holds : tie.Need-loop-holds Inv-loop μ-loop
 loop-holds c = (omega arith, sym (fold-none _||_ false _))
 
--- src/checks.rt:117:39
 mul-word : tie.Need-mul-word Inv-loop μ-loop
 mul-word c = search needs
 
--- src/checks.rt:117:34
 add-word : tie.Need-add-word Inv-loop μ-loop
 add-word c = search needs
 
--- src/checks.rt:117:22
 word-requires : tie.Need-word-requires Inv-loop μ-loop
 word-requires c κs = search needs
 
--- src/checks.rt:117:49
 mul-bad : tie.Need-mul-bad Inv-loop μ-loop
 mul-bad c = search needs
 
--- src/checks.rt:117:49
 element-copy-out-bad : tie.Need-element-copy-out-bad Inv-loop μ-loop
 element-copy-out-bad c = search needs
 
--- src/checks.rt:118:9
 add-s : tie.Need-add-s Inv-loop μ-loop
 add-s c = search needs
 
--- src/checks.rt:116:5
 loop-less : tie.Need-loop-less Inv-loop μ-loop
 loop-less c = search needs
 
--- src/checks.rt:116:5
 loop-again : tie.Need-loop-again Inv-loop μ-loop
 loop-again c = let a = c .before .before .before .before .before .args in (omega arith, any-more _ _ (c .before .before .before .loop .inv .1) (ap (λ (v : ℕ). not (eqb v (getD (a .right .now) (c .before .before .before .loop .s) 0))) (c .before .word .ensures ∙ sym (covered-in (a .state .now) (c .before .before .before .loop .s) (omega arith)))))
 
--- src/checks.rt:110:1
 returns : tie.Need-returns Inv-loop μ-loop
 unfolding miscountedIn
 returns c = let e : c .before .loop .s ≡ c .before .before .before .args .slots = omega arith in rw e at (c .before .loop .inv .1)

@@ -5,30 +5,22 @@ use native.Mathlib.Omega.{arith}
 use borrow.Author.Needs.{needs}
 use Rattle.schedule_state.proofs.listing.list_front.Statement.{statement}
 use Rattle.schedule_state.proofs.listing.list_front.Tie as tie
-use Rattle.schedule_state.proofs.listing.list_front.Reads as reads
-use Rattle.schedule_state.proofs.listing.list_front.Lts as lts
 
--- src/listing.rt:79:13
 mul-a : tie.Need-mul-a
 mul-a c = search needs
 
--- src/listing.rt:80:13
 add-e : tie.Need-add-e
 add-e c = search needs
 
--- src/listing.rt:81:5
 sub-result : tie.Need-sub-result
 sub-result c = search needs
 
--- src/listing.rt:81:5
 part-result-start : tie.Need-part-result-start
 part-result-start c = search needs
 
--- src/listing.rt:81:5
 part-result-end : tie.Need-part-result-end
 part-result-end c = search needs
 
--- src/listing.rt:75:1
 returns : tie.Need-returns
 returns c = let s = c .before .args in record { block = refl; start = omega arith; holds = rw (add-sub-cancel-left (s .stride * s .slot) (s .len)) }
 

@@ -3,14 +3,10 @@ use native.Mathlib.Nat.{mul-le-mul}
 use borrow.Author.Needs.{needs}
 use Rattle.schedule_state.proofs.number.beside.Statement.{statement}
 use Rattle.schedule_state.proofs.number.beside.Tie as tie
-use Rattle.schedule_state.proofs.number.beside.Reads as reads
-use Rattle.schedule_state.proofs.number.beside.Lts as lts
 
--- src/number.rt:28:34
 mul-t5 : tie.Need-mul-t5
 mul-t5 c = omega (arith, mul-le-mul (c .before .pre .choices) (c .before .pre .slots))
 
--- src/number.rt:23:1
 returns : tie.Need-returns
 returns c = search needs
 

@@ -1,30 +1,22 @@
 use borrow.Author.Needs.{needs}
 use Rattle.score.proofs.Ordering.number.Statement.{statement}
 use Rattle.score.proofs.Ordering.number.Tie as tie
-use Rattle.score.proofs.Ordering.number.Reads as reads
-use Rattle.score.proofs.Ordering.number.Lts as lts
 
--- src/lib.rt:127:31
 enum-told : tie.Need-enum-told
 enum-told c = search needs
 
--- src/lib.rt:128:32
 enum-told-2 : tie.Need-enum-told-2
 enum-told-2 c = search needs
 
--- src/lib.rt:129:34
 enum-told-3 : tie.Need-enum-told-3
 enum-told-3 c = search needs
 
--- src/lib.rt:123:5
 returns : tie.Need-returns
 returns c = simp (c .enum-told .given .1)
 
--- src/lib.rt:123:5
 returns-2 : tie.Need-returns-2
 returns-2 c = simp (c .enum-told2 .given .1)
 
--- src/lib.rt:123:5
 returns-3 : tie.Need-returns-3
 returns-3 c = simp (c .enum-told3 .given .1)
 

@@ -3,36 +3,25 @@ use Rattle.score.specs.Before.{both-finite, left-finite, right-finite, n
 use borrow.Author.Needs.{needs}
 use Rattle.score.proofs.Score.cmp.Statement.{statement}
 use Rattle.score.proofs.Score.cmp.Tie as tie
-use Rattle.score.proofs.Score.cmp.Reads as reads
-use Rattle.score.proofs.Score.cmp.Lts as lts
-use Rattle.score.proofs.Score.cmp_finite.Reads as cmp-finite-reads
-use Rattle.score.proofs.Score.is_finite.Reads as is-finite-reads
 
--- src/lib.rt:151:13
 is-finite-requires : tie.Need-is-finite-requires
 is-finite-requires c κs = search needs
 
--- src/lib.rt:152:13
 is-finite-requires-2 : tie.Need-is-finite-requires-2
 is-finite-requires-2 c κs = search needs
 
--- src/lib.rt:154:13
 cmp-finite-requires : tie.Need-cmp-finite-requires
 cmp-finite-requires c κs = search needs
 
--- src/lib.rt:154:13
 returns : tie.Need-returns
 returns c = c .cmp-finite .ensures ∙ both-finite (c .before .before .before .before .args .self) (c .before .before .before .before .args .other) (c .before .before .before .is-finite .ensures) (c .before .before .is-finite2 .ensures) (c .before .if1 .taken)
 
--- src/lib.rt:157:13
 returns-2 : tie.Need-returns-2
 returns-2 c = left-finite (c .before .before .before .before .args .self) (c .before .before .before .before .args .other) (c .before .before .before .is-finite .ensures) (c .before .before .is-finite2 .ensures) (c .before .if1 .left) (c .if2 .taken)
 
--- src/lib.rt:160:13
 returns-3 : tie.Need-returns-3
 returns-3 c = right-finite (c .before .before .before .before .before .args .self) (c .before .before .before .before .before .args .other) (c .before .before .before .before .is-finite .ensures) (c .before .before .before .is-finite2 .ensures) (c .before .if2 .left) (c .if3 .taken)
 
--- src/lib.rt:148:5
 returns-4 : tie.Need-returns-4
 returns-4 c = none-finite (c .before .before .before .before .before .args .self) (c .before .before .before .before .before .args .other) (c .before .before .before .before .is-finite .ensures) (c .before .before .before .is-finite2 .ensures) (c .before .if2 .left) (c .if3 .left)
 

@@ -5,43 +5,28 @@ use Rattle.scoring.specs.Laws.{cells-most}
 use borrow.Author.Needs.{needs}
 use Rattle.scoring.proofs.evaluating.beside_tables.Statement.{statement}
 use Rattle.scoring.proofs.evaluating.beside_tables.Tie as tie
-use Rattle.scoring.proofs.evaluating.beside_tables.Reads as reads
-use Rattle.scoring.proofs.evaluating.beside_tables.Lts as lts
-use Rattle.input_data.proofs.choices.Reads as choices-reads
-use Rattle.input_data.proofs.choosers.Reads as choosers-reads
-use Rattle.input_data.proofs.max_preference.Reads as max-preference-reads
-use Rattle.input_data.proofs.bad_preferences.Reads as bad-preferences-reads
-use Rattle.scoring.proofs.evaluating.wrong_tables.Reads as wrong-tables-reads
 
--- src/evaluating.rt:126:9
 max-preference-requires : tie.Need-max-preference-requires
 max-preference-requires c κs = search needs
 
--- src/evaluating.rt:127:17
 choosers-requires : tie.Need-choosers-requires
 choosers-requires c κs = search needs
 
--- src/evaluating.rt:127:45
 choices-requires : tie.Need-choices-requires
 choices-requires c κs = search needs
 
--- src/evaluating.rt:127:17
 mul-cells : tie.Need-mul-cells
 mul-cells c = rw (c .choices .ensures, c .before .choosers .ensures) (omega (arith, cells-most (c .before .before .before .before .before .args .limits) (dayOf (c .before .before .before .before .before .args .day .now)) (c .before .before .before .before .before .pre .within) (c .before .before .before .before .before .pre .few)))
 
--- src/evaluating.rt:128:16
 mul-size : tie.Need-mul-size
 mul-size c = omega (arith, mul-le-mul (c .before .before .before .before .before .before .pre .within .choosers) (c .before .before .before .before .before .before .pre .within .slots))
 
--- src/evaluating.rt:129:9
 wrong-tables-requires : tie.Need-wrong-tables-requires
 wrong-tables-requires c κs = search needs
 
--- src/evaluating.rt:132:22
 bad-preferences-requires : tie.Need-bad-preferences-requires
 bad-preferences-requires c κs = search needs
 
--- src/evaluating.rt:114:1
 returns : tie.Need-returns
 returns c = simp (c .bad-preferences .ensures, c .before .wrong-tables .ensures, c .before .before .before .choices .ensures, c .before .before .before .before .choosers .ensures, c .before .before .before .before .before .max-preference .ensures)
 

@@ -9,73 +9,47 @@ use Rattle.scoring.specs.Laws.{evaluate-parts}
 use borrow.Author.Needs.{needs}
 use Rattle.scoring.proofs.evaluating.evaluate_number.Statement.{statement}
 use Rattle.scoring.proofs.evaluating.evaluate_number.Tie as tie
-use Rattle.scoring.proofs.evaluating.evaluate_number.Reads as reads
-use Rattle.scoring.proofs.evaluating.evaluate_number.Lts as lts
-use Rattle.input_data.proofs.choices.Reads as choices-reads
-use Rattle.input_data.proofs.choosers.Reads as choosers-reads
-use Rattle.input_data.proofs.slots.Reads as slots-reads
-use Rattle.input_data.proofs.day_number.Reads as day-number-reads
-use Rattle.input_data.proofs.too_many.Reads as too-many-reads
-use Rattle.scoring.proofs.Solution.has_plan.Reads as has-plan-reads
-use Rattle.scoring.proofs.Solution.has_schedule.Reads as has-schedule-reads
-use Rattle.scoring.proofs.evaluating.beside_tables.Reads as beside-tables-reads
-use Rattle.scoring.proofs.evaluating.wrong_schedule.Reads as wrong-schedule-reads
-use Rattle.scoring.proofs.numbers.parts_number.Reads as parts-number-reads
 
--- src/evaluating.rt:159:9
 returns : tie.Need-returns
 returns c = let a = c .before .before .before .before .before .args in lent-short (a .limits) (a .day .now) (hasSchedule (a .solution) && notSchedule (a .schedule .now)) _ (c .if1 .taken)
 
--- src/evaluating.rt:161:9
 choosers-requires : tie.Need-choosers-requires
 choosers-requires c κs = search needs
 
--- src/evaluating.rt:162:47
 choices-requires : tie.Need-choices-requires
 choices-requires c κs = search needs
 
--- src/evaluating.rt:162:73
 slots-requires : tie.Need-slots-requires
 slots-requires c κs = search needs
 
--- src/evaluating.rt:162:8
 too-many-requires : tie.Need-too-many-requires
 too-many-requires c κs = search needs
 
--- src/evaluating.rt:163:9
 returns-2 : tie.Need-returns-2
 returns-2 c = let a = c .before .before .before .before .before .before .before .before .before .before .args in lent-many (a .limits) (a .day .now) (hasSchedule (a .solution) && notSchedule (a .schedule .now)) _ (c .before .before .before .before .before .if1 .left) (so (rw (c .before .before .slots .ensures, c .before .before .before .choices .ensures, c .before .before .before .before .choosers .ensures) at (c .before .too-many .ensures)) (c .if2 .taken))
 
--- src/evaluating.rt:165:9
 has-plan-requires : tie.Need-has-plan-requires
 has-plan-requires c κs = search needs
 
--- src/evaluating.rt:166:9
 has-schedule-requires : tie.Need-has-schedule-requires
 has-schedule-requires c κs = search needs
 
--- src/evaluating.rt:167:9
 wrong-schedule-requires : tie.Need-wrong-schedule-requires
 wrong-schedule-requires c κs = search needs
 
--- src/evaluating.rt:168:9
 beside-tables-requires : tie.Need-beside-tables-requires
 beside-tables-requires c κs = record { long = c .before .before .before .before .before .before .before .before .if1 .left; within = c .before .before .before .before .before .before .before .before .before .before .before .before .before .pre; few = so (rw (c .before .before .before .before .before .slots .ensures, c .before .before .before .before .before .before .choices .ensures, c .before .before .before .before .before .before .before .choosers .ensures) at (c .before .before .before .before .too-many .ensures)) (c .before .before .before .if2 .left) }
 
--- src/evaluating.rt:169:9
 day-number-requires : tie.Need-day-number-requires
 day-number-requires c κs = search needs
 
--- src/evaluating.rt:171:9
 returns-3 : tie.Need-returns-3
 unfolding evaluateNumber
 returns-3 c = let a = c .before .before .before .before .before .before .before .before .before .before .before .before .before .before .before .before .args in lent-refused (a .limits) (a .day .now) (hasSchedule (a .solution) && notSchedule (a .schedule .now)) (besideTables (a .limits) (dayOf (a .day .now)) (hasPlan (a .solution)) (a .preferences .now) (a .powers) (length (a .plan .now))) _ (c .before .before .before .before .before .before .before .before .before .before .before .if1 .left) (rw (c .before .before .beside-tables .ensures, c .before .before .before .wrong-schedule .ensures, c .before .before .before .before .has-schedule .ensures, c .before .before .before .before .before .has-plan .ensures) at (c .before .day-number .ensures)) (c .if3 .taken)
 
--- src/evaluating.rt:173:5
 parts-number-requires : tie.Need-parts-number-requires
 parts-number-requires c κs = let a = c .before .before .before .before .before .before .before .before .before .before .before .before .before .before .before .before .args in rw (c .before .before .before .before .has-schedule .ensures, c .before .before .before .before .before .has-plan .ensures) (evaluate-parts (a .limits) (a .day .now) (a .solution) (a .schedule .now) (a .preferences .now) (a .powers) (length (a .plan .now)) (c .before .before .before .before .before .before .before .before .before .before .before .before .before .before .before .before .pre) (c .before .before .before .before .before .before .before .before .before .before .before .if1 .left) (rw (c .before .before .beside-tables .ensures, c .before .before .before .wrong-schedule .ensures, c .before .before .before .before .has-schedule .ensures, c .before .before .before .before .before .has-plan .ensures) at (c .before .day-number .ensures)) (c .if3 .left))
 
--- src/evaluating.rt:146:1
 returns-4 : tie.Need-returns-4
 unfolding evaluateNumber
 returns-4 c = let a = c .before .before .before .before .before .before .before .before .before .before .before .before .before .before .before .before .before .args in lent-else (a .limits) (a .day .now) (hasSchedule (a .solution) && notSchedule (a .schedule .now)) (besideTables (a .limits) (dayOf (a .day .now)) (hasPlan (a .solution)) (a .preferences .now) (a .powers) (length (a .plan .now))) _ (c .before .before .before .before .before .before .before .before .before .before .before .before .if1 .left) (rw (c .before .before .before .beside-tables .ensures, c .before .before .before .before .wrong-schedule .ensures, c .before .before .before .before .before .has-schedule .ensures, c .before .before .before .before .before .before .has-plan .ensures) at (c .before .before .day-number .ensures)) (c .before .if3 .left) (rw (c .before .before .before .before .before .has-schedule .ensures, c .before .before .before .before .before .before .has-plan .ensures) at (c .parts-number .ensures))

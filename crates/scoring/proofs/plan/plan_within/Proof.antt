@@ -1,4 +1,4 @@
-use Rattle.scoring.specs.Feasible.{planFeasible}
+use Rattle.feasibility.specs.Feasible.{planFeasible}
 use Rattle.counting.specs.Tests.{so}
 use Rattle.input_data.specs.Bytes.{dayOf, lentNumber}
 use Rattle.scheduling.specs.Handed.{scheduleOf, notSchedule, keptOf}
@@ -7,44 +7,29 @@ use Rattle.scoring.specs.Laws.{verdict-lent, verdict-refused, verdict-do
 use borrow.Author.Needs.{needs}
 use Rattle.scoring.proofs.plan.plan_within.Statement.{statement}
 use Rattle.scoring.proofs.plan.plan_within.Tie as tie
-use Rattle.scoring.proofs.plan.plan_within.Reads as reads
-use Rattle.scoring.proofs.plan.plan_within.Lts as lts
-use Rattle.input_data.proofs.choices.Reads as choices-reads
-use Rattle.scheduling.proofs.kept.Reads as kept-reads
-use Rattle.scoring.proofs.numbers.answer.Reads as answer-reads
-use Rattle.scoring.proofs.numbers.verdict_number.Reads as verdict-number-reads
-use Rattle.scoring.proofs.plan.plan_holds.Reads as plan-holds-reads
 
--- src/plan.rt:77:9
 verdict-number-requires : tie.Need-verdict-number-requires
 verdict-number-requires c κs = search needs
 
--- src/plan.rt:79:9
 answer-requires : tie.Need-answer-requires
 answer-requires c κs = search needs
 
--- src/plan.rt:79:9
 returns : tie.Need-returns
 unfolding planLent
 returns c = let a = c .before .before .before .before .before .before .args in verdict-refused (lentNumber (a .limits) (a .day .now) (notSchedule (a .schedule .now)) (verdictNumber (a .limits) (dayOf (a .day .now)) (scheduleOf (a .schedule .now)) (a .plan .now))) (planFeasible (dayOf (a .day .now)) (keptOf (dayOf (a .day .now)) (scheduleOf (a .schedule .now))) (a .plan .now)) (c .before .before .verdict-number .ensures) (c .before .if1 .taken) (c .answer .ensures)
 
--- src/plan.rt:81:36
 choices-requires : tie.Need-choices-requires
 choices-requires c κs = verdict-lent (c .before .before .before .before .before .args .limits) (c .before .before .before .before .before .args .day .now) (c .before .before .before .before .before .args .schedule .now) (c .before .before .before .before .before .args .plan .now) (c .before .before .before .before .before .pre) (so (c .before .verdict-number .ensures) (c .if1 .left)) .long
 
--- src/plan.rt:81:19
 kept-requires : tie.Need-kept-requires
 kept-requires c κs = verdict-lent (c .before .before .before .before .before .before .args .limits) (c .before .before .before .before .before .before .args .day .now) (c .before .before .before .before .before .before .args .schedule .now) (c .before .before .before .before .before .before .args .plan .now) (c .before .before .before .before .before .before .pre) (so (c .before .before .verdict-number .ensures) (c .before .if1 .left)) .entries
 
--- src/plan.rt:82:15
 plan-holds-requires : tie.Need-plan-holds-requires
 plan-holds-requires c κs = let p = verdict-lent (c .before .before .before .before .before .before .before .before .args .limits) (c .before .before .before .before .before .before .before .before .args .day .now) (c .before .before .before .before .before .before .before .before .args .schedule .now) (c .before .before .before .before .before .before .before .before .args .plan .now) (c .before .before .before .before .before .before .before .before .pre) (so (c .before .before .before .before .verdict-number .ensures) (c .before .before .before .if1 .left)) in rw (c .before .kept .ensures, c .before .before .choices .ensures) (p .long, p .judged)
 
--- src/plan.rt:82:5
 answer-requires-2 : tie.Need-answer-requires-2
 answer-requires-2 c κs = search needs
 
--- src/plan.rt:73:1
 returns-2 : tie.Need-returns-2
 unfolding planLent
 returns-2 c = let a = c .before .before .before .before .before .before .before .before .before .before .args in verdict-done (lentNumber (a .limits) (a .day .now) (notSchedule (a .schedule .now)) (verdictNumber (a .limits) (dayOf (a .day .now)) (scheduleOf (a .schedule .now)) (a .plan .now))) (planFeasible (dayOf (a .day .now)) (keptOf (dayOf (a .day .now)) (scheduleOf (a .schedule .now))) (a .plan .now)) (c .before .before .before .before .before .before .verdict-number .ensures) (c .before .before .before .before .before .if1 .left) (c .answer2 .ensures) (rw (c .before .before .before .kept .ensures, c .before .before .before .before .choices .ensures) at (c .before .plan-holds .ensures))

@@ -2,20 +2,13 @@ use Rattle.input_data.specs.Numbers.{full-within}
 use borrow.Author.Needs.{needs}
 use Rattle.scoring.proofs.plan.satisfies_constraints_assignment.Statement.{statement}
 use Rattle.scoring.proofs.plan.satisfies_constraints_assignment.Tie as tie
-use Rattle.scoring.proofs.plan.satisfies_constraints_assignment.Reads as reads
-use Rattle.scoring.proofs.plan.satisfies_constraints_assignment.Lts as lts
-use Rattle.input_data.proofs.full_day.Reads as full-day-reads
-use Rattle.scoring.proofs.plan.assignment_within.Reads as assignment-within-reads
 
--- src/plan.rt:68:23
 full-day-requires : tie.Need-full-day-requires
 full-day-requires c κs = search needs
 
--- src/plan.rt:68:5
 assignment-within-requires : tie.Need-assignment-within-requires
 assignment-within-requires c κs = rw (c .full-day .ensures) full-within
 
--- src/plan.rt:61:1
 returns : tie.Need-returns
 returns c = rw (c .before .full-day .ensures) at (c .assignment-within .ensures)
 

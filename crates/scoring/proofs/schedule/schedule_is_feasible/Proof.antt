@@ -2,20 +2,13 @@ use Rattle.input_data.specs.Numbers.{full-within}
 use borrow.Author.Needs.{needs}
 use Rattle.scoring.proofs.schedule.schedule_is_feasible.Statement.{statement}
 use Rattle.scoring.proofs.schedule.schedule_is_feasible.Tie as tie
-use Rattle.scoring.proofs.schedule.schedule_is_feasible.Reads as reads
-use Rattle.scoring.proofs.schedule.schedule_is_feasible.Lts as lts
-use Rattle.input_data.proofs.full_day.Reads as full-day-reads
-use Rattle.scoring.proofs.schedule.schedule_within.Reads as schedule-within-reads
 
--- src/schedule.rt:100:21
 full-day-requires : tie.Need-full-day-requires
 full-day-requires c κs = search needs
 
--- src/schedule.rt:100:5
 schedule-within-requires : tie.Need-schedule-within-requires
 schedule-within-requires c κs = rw (c .full-day .ensures) full-within
 
--- src/schedule.rt:97:1
 returns : tie.Need-returns
 returns c = rw (c .before .full-day .ensures) at (c .schedule-within .ensures)
 

@@ -7,44 +7,29 @@ use Rattle.scoring.specs.Laws.{schedule-lent, verdict-refused, verdict-d
 use borrow.Author.Needs.{needs}
 use Rattle.scoring.proofs.schedule.scheduling_within.Statement.{statement}
 use Rattle.scoring.proofs.schedule.scheduling_within.Tie as tie
-use Rattle.scoring.proofs.schedule.scheduling_within.Reads as reads
-use Rattle.scoring.proofs.schedule.scheduling_within.Lts as lts
-use Rattle.input_data.proofs.choices.Reads as choices-reads
-use Rattle.satisfies_constraints.proofs.scheduling_met.Reads as scheduling-met-reads
-use Rattle.scheduling.proofs.kept.Reads as kept-reads
-use Rattle.scoring.proofs.numbers.answer.Reads as answer-reads
-use Rattle.scoring.proofs.numbers.schedule_number.Reads as schedule-number-reads
 
--- src/schedule.rt:70:9
 schedule-number-requires : tie.Need-schedule-number-requires
 schedule-number-requires c κs = search needs
 
--- src/schedule.rt:72:9
 answer-requires : tie.Need-answer-requires
 answer-requires c κs = search needs
 
--- src/schedule.rt:72:9
 returns : tie.Need-returns
 unfolding schedulingLent
 returns c = let a = c .before .before .before .before .before .args in verdict-refused (lentNumber (a .limits) (a .day .now) (notSchedule (a .schedule .now)) (scheduleNumber (a .limits) (dayOf (a .day .now)) (scheduleOf (a .schedule .now)))) (schedulingMet (dayOf (a .day .now)) (keptOf (dayOf (a .day .now)) (scheduleOf (a .schedule .now)))) (c .before .before .schedule-number .ensures) (c .before .if1 .taken) (c .answer .ensures)
 
--- src/schedule.rt:74:9
 choices-requires : tie.Need-choices-requires
 choices-requires c κs = schedule-lent (c .before .before .before .before .args .limits) (c .before .before .before .before .args .day .now) (c .before .before .before .before .args .schedule .now) (c .before .before .before .before .pre) (so (c .before .schedule-number .ensures) (c .if1 .left)) .long
 
--- src/schedule.rt:75:19
 kept-requires : tie.Need-kept-requires
 kept-requires c κs = schedule-lent (c .before .before .before .before .before .args .limits) (c .before .before .before .before .before .args .day .now) (c .before .before .before .before .before .args .schedule .now) (c .before .before .before .before .before .pre) (so (c .before .before .schedule-number .ensures) (c .before .if1 .left)) .entries
 
--- src/schedule.rt:76:15
 scheduling-met-requires : tie.Need-scheduling-met-requires
-scheduling-met-requires c κs = let p = schedule-lent (c .before .before .before .before .before .before .before .args .limits) (c .before .before .before .before .before .before .before .args .day .now) (c .before .before .before .before .before .before .before .args .schedule .now) (c .before .before .before .before .before .before .before .pre) (so (c .before .before .before .before .schedule-number .ensures) (c .before .before .before .if1 .left)) in let q = p .schedulable in rw (c .before .kept .ensures, c .before .before .choices .ensures) (q .day .choices, q .long, record { long = p .long; count = q .count; numbers = q .numbers })
+scheduling-met-requires c κs = let p = schedule-lent (c .before .before .before .before .before .before .before .args .limits) (c .before .before .before .before .before .before .before .args .day .now) (c .before .before .before .before .before .before .before .args .schedule .now) (c .before .before .before .before .before .before .before .pre) (so (c .before .before .before .before .schedule-number .ensures) (c .before .before .before .if1 .left)) in let q = p .schedulable in rw (c .before .kept .ensures, c .before .before .choices .ensures) (record { few = q .day .choices; entries = q .long; long = p .long; short = q .day .slots; accepted = q .scheduling })
 
--- src/schedule.rt:76:5
 answer-requires-2 : tie.Need-answer-requires-2
 answer-requires-2 c κs = search needs
 
--- src/schedule.rt:66:1
 returns-2 : tie.Need-returns-2
 unfolding schedulingLent schedulingMet
 returns-2 c = let a = c .before .before .before .before .before .before .before .before .before .args in verdict-done (lentNumber (a .limits) (a .day .now) (notSchedule (a .schedule .now)) (scheduleNumber (a .limits) (dayOf (a .day .now)) (scheduleOf (a .schedule .now)))) (schedulingMet (dayOf (a .day .now)) (keptOf (dayOf (a .day .now)) (scheduleOf (a .schedule .now)))) (c .before .before .before .before .before .before .schedule-number .ensures) (c .before .before .before .before .before .if1 .left) (c .answer2 .ensures) (rw (c .before .before .before .kept .ensures, c .before .before .before .before .choices .ensures) at (c .before .scheduling-met .ensures))

@@ -3,15 +3,13 @@ use mathlib.Core.Path.{_≡_, sym}
 use mathlib.Core.Bool.{true, _&&_}
 use native.Mathlib.Omega.{arith}
 use borrow.Author.Needs.{needs}
-use Rattle.counting.specs.Fold.{allTo, fold-none}
+use Rattle.counting.specs.Fold.{allTo}
+use Rattle.counting.specs.FoldLaws.{fold-none}
 use Rattle.scheduling.specs.Schedule.{entryAt}
 use Rattle.seat_counts.specs.Seats.{filledAt, allFilled}
 use Rattle.seat_counts.specs.Laws.{fold-next}
 use Rattle.seat_counts.proofs.plan.all_filled.Statement.{statement}
 use Rattle.seat_counts.proofs.plan.all_filled.Tie as tie
-use Rattle.seat_counts.proofs.plan.all_filled.Reads as reads
-use Rattle.seat_counts.proofs.plan.all_filled.Lts as lts
-use Rattle.seat_counts.proofs.plan.is_filled.Reads as is-filled-reads
 
 abbrev Inv-loop : tie.InvT-loop
 Inv-loop choices entries mins maxs counts filled₀ k₀ filled k = (k ≤ choices) × (filled ≡ allTo k (filledAt entries mins maxs (entryAt counts)))
@@ -19,55 +17,42 @@ Inv-loop choices entries mins maxs counts filled₀ k₀ filled k = (k ≤ choic
 abbrev μ-loop : tie.MeasureT-loop
 μ-loop choices entries mins maxs counts filled₀ k₀ filled k = choices - k
 
--- src/plan.rt:82:5
 loop-holds : tie.Need-loop-holds Inv-loop μ-loop
 loop-holds c = (search needs, sym (fold-none _&&_ true _))
 
--- src/plan.rt:83:37
 element-copy-out-is-filled : tie.Need-element-copy-out-is-filled Inv-loop μ-loop
 element-copy-out-is-filled c = search needs
 
--- src/plan.rt:83:54
 mul-is-filled : tie.Need-mul-is-filled Inv-loop μ-loop
 mul-is-filled c = search needs
 
--- src/plan.rt:83:54
 element-copy-out-is-filled-2 : tie.Need-element-copy-out-is-filled-2 Inv-loop μ-loop
 element-copy-out-is-filled-2 c = search needs
 
--- src/plan.rt:83:63
 mul-is-filled-2 : tie.Need-mul-is-filled-2 Inv-loop μ-loop
 mul-is-filled-2 c = search needs
 
--- src/plan.rt:83:63
 element-copy-out-is-filled-3 : tie.Need-element-copy-out-is-filled-3 Inv-loop μ-loop
 element-copy-out-is-filled-3 c = search needs
 
--- src/plan.rt:83:72
 mul-is-filled-3 : tie.Need-mul-is-filled-3 Inv-loop μ-loop
 mul-is-filled-3 c = search needs
 
--- src/plan.rt:83:72
 element-copy-out-is-filled-4 : tie.Need-element-copy-out-is-filled-4 Inv-loop μ-loop
 element-copy-out-is-filled-4 c = search needs
 
--- src/plan.rt:83:27
 is-filled-requires : tie.Need-is-filled-requires Inv-loop μ-loop
 is-filled-requires c κs = search needs
 
--- src/plan.rt:84:9
 add-k : tie.Need-add-k Inv-loop μ-loop
 add-k c = search needs
 
--- src/plan.rt:82:5
 loop-less : tie.Need-loop-less Inv-loop μ-loop
 loop-less c = search needs
 
--- src/plan.rt:82:5
 loop-again : tie.Need-loop-again Inv-loop μ-loop
 loop-again c = (search needs, fold-next _&&_ true _ _ (c .before .before .before .before .before .before .loop .inv .1) (c .is-filled .ensures))
 
--- src/plan.rt:70:1
 returns : tie.Need-returns Inv-loop μ-loop
 unfolding allFilled
 returns c = let e : c .before .loop .k ≡ c .before .before .args .choices = omega arith in rw e at (c .before .loop .inv .1)

@@ -1,10 +1,7 @@
 use mathlib.Core.Path.{refl}
 use Rattle.seat_counts.proofs.plan.is_filled.Statement.{statement}
 use Rattle.seat_counts.proofs.plan.is_filled.Tie as tie
-use Rattle.seat_counts.proofs.plan.is_filled.Reads as reads
-use Rattle.seat_counts.proofs.plan.is_filled.Lts as lts
 
--- src/plan.rt:63:1
 returns : tie.Need-returns
 returns c = refl
 

@@ -6,8 +6,6 @@ use Rattle.scheduling.specs.Schedule.{entryAt}
 use Rattle.seat_counts.specs.Laws.{Parts, parts-none, parts-more, part-most}
 use Rattle.seat_counts.proofs.plan.part_counts.Statement.{statement}
 use Rattle.seat_counts.proofs.plan.part_counts.Tie as tie
-use Rattle.seat_counts.proofs.plan.part_counts.Reads as reads
-use Rattle.seat_counts.proofs.plan.part_counts.Lts as lts
 
 abbrev Inv-loop : tie.InvT-loop
 Inv-loop seats plan counts₀ i₀ counts i = (i ≤ seats) × Parts i plan counts
@@ -15,51 +13,39 @@ Inv-loop seats plan counts₀ i₀ counts i = (i ≤ seats) × Parts i plan coun
 abbrev μ-loop : tie.MeasureT-loop
 μ-loop seats plan counts₀ i₀ counts i = seats - i
 
--- src/plan.rt:55:5
 loop-holds : tie.Need-loop-holds Inv-loop μ-loop
 loop-holds c = (search needs, parts-none _)
 
--- src/plan.rt:56:17
 shared-slice-read-k : tie.Need-shared-slice-read-k Inv-loop μ-loop
 shared-slice-read-k c = omega (arith, c .before .before .before .pre .inside)
 
--- src/plan.rt:56:17
 cast-k : tie.Need-cast-k Inv-loop μ-loop
 cast-k c = let i = c .before .before .loop .i in omega (arith, c .before .before .before .pre .choice i (omega arith))
 
--- src/plan.rt:57:21
 mul-counts : tie.Need-mul-counts Inv-loop μ-loop
 mul-counts c = let i = c .before .before .loop .i in omega (arith, c .before .before .before .pre .choice i (omega arith))
 
--- src/plan.rt:57:21
 array-read-counts : tie.Need-array-read-counts Inv-loop μ-loop
 array-read-counts c = let i = c .before .before .loop .i in omega (arith, c .before .before .before .pre .choice i (omega arith))
 
--- src/plan.rt:57:21
 add-counts : tie.Need-add-counts Inv-loop μ-loop
 add-counts c = let i = c .before .before .loop .i in let k = entryAt (c .before .before .before .args .plan .now) i in omega (arith, c .before .before .before .pre .few, c .before .before .loop .inv .1 .at k (c .before .before .before .pre .choice i (omega arith)), part-most i (c .before .before .before .args .plan .now) k)
 
--- src/plan.rt:57:9
 mul-counts-2 : tie.Need-mul-counts-2 Inv-loop μ-loop
 mul-counts-2 c = let i = c .before .before .loop .i in omega (arith, c .before .before .before .pre .choice i (omega arith))
 
--- src/plan.rt:57:9
 array-write-counts : tie.Need-array-write-counts Inv-loop μ-loop
 array-write-counts c = let i = c .before .before .loop .i in omega (arith, c .before .before .before .pre .choice i (omega arith))
 
--- src/plan.rt:58:9
 add-i : tie.Need-add-i Inv-loop μ-loop
 add-i c = search needs
 
--- src/plan.rt:55:5
 loop-less : tie.Need-loop-less Inv-loop μ-loop
 loop-less c = search needs
 
--- src/plan.rt:55:5
 loop-again : tie.Need-loop-again Inv-loop μ-loop
 loop-again c = (search needs, parts-more (c .before .before .loop .inv .1) (c .before .before .before .pre .choice _ (omega arith)))
 
--- src/plan.rt:49:1
 returns : tie.Need-returns Inv-loop μ-loop
 returns c = let e : c .before .loop .i ≡ c .before .before .args .seats = omega arith in rw e at (c .before .loop .inv .1)
 

@@ -2,15 +2,12 @@ use Prim.Native.Nat.{_≤_, _-_, max}
 use mathlib.Core.Path.{_≡_, sym, _∙_}
 use native.Mathlib.Omega.{arith}
 use borrow.Author.Needs.{needs}
-use Rattle.counting.specs.Fold.{foldTo, fold-none}
+use Rattle.counting.specs.Fold.{foldTo}
+use Rattle.counting.specs.FoldLaws.{fold-none}
 use Rattle.seat_counts.specs.Preferences.{greatestRow, greatest}
 use Rattle.seat_counts.specs.Laws.{fold-next}
 use Rattle.seat_counts.proofs.preferences.greatest_preference.Statement.{statement}
 use Rattle.seat_counts.proofs.preferences.greatest_preference.Tie as tie
-use Rattle.seat_counts.proofs.preferences.greatest_preference.Reads as reads
-use Rattle.seat_counts.proofs.preferences.greatest_preference.Lts as lts
-use Rattle.seat_counts.proofs.preferences.greater.Reads as greater-reads
-use Rattle.seat_counts.proofs.preferences.greatest_row.Reads as greatest-row-reads
 
 abbrev Inv-loop : tie.InvT-loop
 Inv-loop choosers choices slots preferences plan most₀ c₀ most c = (c ≤ choosers) × (most ≡ foldTo max 0 c (greatestRow choices slots preferences plan))
@@ -18,31 +15,24 @@ Inv-loop choosers choices slots preferences plan most₀ c₀ most c = (c ≤ ch
 abbrev μ-loop : tie.MeasureT-loop
 μ-loop choosers choices slots preferences plan most₀ c₀ most c = choosers - c
 
--- src/preferences.rt:70:5
 loop-holds : tie.Need-loop-holds Inv-loop μ-loop
 loop-holds c = (search needs, sym (fold-none max 0 _))
 
--- src/preferences.rt:71:13
 greatest-row-requires : tie.Need-greatest-row-requires Inv-loop μ-loop
 greatest-row-requires c κs = (c .before .before .before .before .pre, c .loop-test .taken)
 
--- src/preferences.rt:72:9
 greater-requires : tie.Need-greater-requires Inv-loop μ-loop
 greater-requires c κs = search needs
 
--- src/preferences.rt:73:9
 add-c : tie.Need-add-c Inv-loop μ-loop
 add-c c = search needs
 
--- src/preferences.rt:70:5
 loop-less : tie.Need-loop-less Inv-loop μ-loop
 loop-less c = search needs
 
--- src/preferences.rt:70:5
 loop-again : tie.Need-loop-again Inv-loop μ-loop
 loop-again c = (search needs, c .greater .ensures ∙ fold-next max 0 _ _ (c .before .before .before .loop .inv .1) (c .before .greatest-row .ensures))
 
--- src/preferences.rt:58:1
 returns : tie.Need-returns Inv-loop μ-loop
 unfolding greatest
 returns c = let e : c .before .loop .c ≡ c .before .before .before .before .args .choosers = omega arith in rw e at (c .before .loop .inv .1)

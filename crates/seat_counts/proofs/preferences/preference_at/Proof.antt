@@ -4,42 +4,31 @@ use Rattle.counting.specs.Sums.{grid-lt}
 use borrow.Author.Needs.{needs}
 use Rattle.seat_counts.proofs.preferences.preference_at.Statement.{statement}
 use Rattle.seat_counts.proofs.preferences.preference_at.Tie as tie
-use Rattle.seat_counts.proofs.preferences.preference_at.Reads as reads
-use Rattle.seat_counts.proofs.preferences.preference_at.Lts as lts
 
--- src/preferences.rt:31:23
 mul-choice : tie.Need-mul-choice
 mul-choice c = let r = c .pre .0 in omega (arith, grid-lt (c .pre .1) (c .pre .2), mul-le-mul (r .few) (r .short))
 
--- src/preferences.rt:31:23
 add-choice : tie.Need-add-choice
 add-choice c = let r = c .pre .0 in omega (arith, grid-lt (c .pre .1) (c .pre .2), mul-le-mul (r .few) (r .short))
 
--- src/preferences.rt:31:18
 shared-slice-read-choice : tie.Need-shared-slice-read-choice
 shared-slice-read-choice c = let p = c .before .pre in omega (arith, p .0 .inside, grid-lt (p .1) (p .2))
 
--- src/preferences.rt:31:18
 cast-choice : tie.Need-cast-choice
 cast-choice c = let a = c .before .args in let p = c .before .pre in omega (arith, p .0 .kinds, p .0 .choice (a .chooser) (a .s) (p .1) (p .2))
 
--- src/preferences.rt:32:17
 mul-result : tie.Need-mul-result
 mul-result c = let a = c .before .args in let p = c .before .pre in omega (arith, mul-le-mul (p .0 .few) (p .0 .kinds), grid-lt (p .1) (p .0 .choice (a .chooser) (a .s) (p .1) (p .2)))
 
--- src/preferences.rt:32:17
 add-result : tie.Need-add-result
 add-result c = let a = c .before .args in let p = c .before .pre in omega (arith, mul-le-mul (p .0 .few) (p .0 .kinds), grid-lt (p .1) (p .0 .choice (a .chooser) (a .s) (p .1) (p .2)))
 
--- src/preferences.rt:32:5
 mul-result-2 : tie.Need-mul-result-2
 mul-result-2 c = let a = c .before .args in let p = c .before .pre in omega (arith, mul-le-mul (p .0 .few) (p .0 .kinds), grid-lt (p .1) (p .0 .choice (a .chooser) (a .s) (p .1) (p .2)))
 
--- src/preferences.rt:32:5
 shared-slice-read-result : tie.Need-shared-slice-read-result
 shared-slice-read-result c = let a = c .before .before .args in let p = c .before .before .pre in omega (arith, p .0 .table, grid-lt (p .1) (p .0 .choice (a .chooser) (a .s) (p .1) (p .2)))
 
--- src/preferences.rt:19:1
 returns : tie.Need-returns
 returns c = search needs
 

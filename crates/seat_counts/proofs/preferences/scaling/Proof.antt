@@ -3,23 +3,17 @@ use borrow.Author.Tests.{ne-eqb}
 use borrow.Author.Needs.{needs}
 use Rattle.seat_counts.proofs.preferences.scaling.Statement.{statement}
 use Rattle.seat_counts.proofs.preferences.scaling.Tie as tie
-use Rattle.seat_counts.proofs.preferences.scaling.Reads as reads
-use Rattle.seat_counts.proofs.preferences.scaling.Lts as lts
 
--- src/preferences.rt:125:9
 returns : tie.Need-returns
 unfolding ofBits
 returns c = simp (c .if1 .taken)
 
--- src/preferences.rt:127:5
 mul-result : tie.Need-mul-result
 mul-result c = search needs
 
--- src/preferences.rt:127:5
 shared-slice-read-result : tie.Need-shared-slice-read-result
 shared-slice-read-result c = search needs
 
--- src/preferences.rt:120:1
 returns-2 : tie.Need-returns-2
 returns-2 c = simp (ne-eqb _ _ (c .before .if1 .left))
 

@@ -5,20 +5,15 @@ use Rattle.seating.proofs.constraints.cendravoka_is_assignment_constrai
   statement,
 }
 use Rattle.seating.proofs.constraints.cendravoka_is_assignment_constraint.Tie as tie
-use Rattle.seating.proofs.constraints.cendravoka_is_assignment_constraint.Reads as reads
-use Rattle.seating.proofs.constraints.cendravoka_is_assignment_constraint.Lts as lts
 use Rattle.constraint.proofs.ConstraintType.is_assignment_constraint.Reads as is-assignment-constraint-reads
 use Rattle.constraint.proofs.ConstraintType.of.Reads as of-reads
 
--- src/constraints.rt:74:5
 of-requires : tie.Need-of-requires
 of-requires c κs = search needs
 
--- src/constraints.rt:74:5
 is-assignment-constraint-requires : tie.Need-is-assignment-constraint-requires
 is-assignment-constraint-requires c κs = search needs
 
--- src/constraints.rt:70:1
 returns : tie.Need-returns
 returns c = c .is-assignment-constraint .ensures ∙ ap isAssignment (c .before .of .ensures)
 

@@ -5,20 +5,15 @@ use Rattle.seating.proofs.constraints.cendravoka_is_scheduling_constrai
   statement,
 }
 use Rattle.seating.proofs.constraints.cendravoka_is_scheduling_constraint.Tie as tie
-use Rattle.seating.proofs.constraints.cendravoka_is_scheduling_constraint.Reads as reads
-use Rattle.seating.proofs.constraints.cendravoka_is_scheduling_constraint.Lts as lts
 use Rattle.constraint.proofs.ConstraintType.is_scheduling_constraint.Reads as is-scheduling-constraint-reads
 use Rattle.constraint.proofs.ConstraintType.of.Reads as of-reads
 
--- src/constraints.rt:67:5
 of-requires : tie.Need-of-requires
 of-requires c κs = search needs
 
--- src/constraints.rt:67:5
 is-scheduling-constraint-requires : tie.Need-is-scheduling-constraint-requires
 is-scheduling-constraint-requires c κs = search needs
 
--- src/constraints.rt:63:1
 returns : tie.Need-returns
 returns c = c .is-scheduling-constraint .ensures ∙ ap isScheduling (c .before .of .ensures)
 

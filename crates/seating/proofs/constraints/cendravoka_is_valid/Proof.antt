@@ -3,20 +3,15 @@ use Rattle.constraint.specs.Kind.{isValid}
 use borrow.Author.Needs.{needs}
 use Rattle.seating.proofs.constraints.cendravoka_is_valid.Statement.{statement}
 use Rattle.seating.proofs.constraints.cendravoka_is_valid.Tie as tie
-use Rattle.seating.proofs.constraints.cendravoka_is_valid.Reads as reads
-use Rattle.seating.proofs.constraints.cendravoka_is_valid.Lts as lts
 use Rattle.constraint.proofs.ConstraintType.is_valid.Reads as is-valid-reads
 use Rattle.constraint.proofs.ConstraintType.of.Reads as of-reads
 
--- src/constraints.rt:60:5
 of-requires : tie.Need-of-requires
 of-requires c κs = search needs
 
--- src/constraints.rt:60:5
 is-valid-requires : tie.Need-is-valid-requires
 is-valid-requires c κs = search needs
 
--- src/constraints.rt:56:1
 returns : tie.Need-returns
 returns c = c .is-valid .ensures ∙ ap isValid (c .before .of .ensures)
 

@@ -2,26 +2,23 @@ use mathlib.Core.Path.{_∙_, ap}
 use Rattle.counting.specs.Tests.{so}
 use Rattle.constraint.specs.Cases.{operatorOf, extraOperand}
 use Rattle.constraint.specs.Numbers.{hasOperator, negatedExtra}
-use Rattle.seating.specs.Constraints.{negatedNumbers, numbers-refused, numbers-limit, numbers-else}
+use Rattle.seating.specs.Constraints.{negatedNumbers}
+use Rattle.seating.specs.ConstraintsLaws.{numbers-refused, numbers-limit, numbers-else}
 use mir.Syntax.{w32}
 use Rattle.counting.specs.Signed.{back}
 use borrow.Author.Needs.{needs}
 use Rattle.seating.proofs.constraints.cendravoka_negation.Statement.{statement}
 use Rattle.seating.proofs.constraints.cendravoka_negation.Tie as tie
 
--- src/constraints.rt:89:12
 has-operator-requires : tie.Need-has-operator-requires
 has-operator-requires c κs = search needs
 
--- src/constraints.rt:90:17
 negated-operator-requires : tie.Need-negated-operator-requires
 negated-operator-requires c κs = search needs
 
--- src/constraints.rt:91:13
 negated-with-requires : tie.Need-negated-with-requires
 negated-with-requires c κs = search needs
 
--- src/constraints.rt:91:13
 returns : tie.Need-returns
 returns c =
     let a = c .before .before .before .before .before .args in
@@ -30,38 +27,30 @@ returns c =
     ∙ ap (negatedNumbers 6 (a .left) (a .target-case) (a .target) 2) (back w32 (c .before .negated-operator .result) (c .before .negated-operator .ok) ∙ c .before .negated-operator .ensures ∙ ap (λ v. extraOperand (negatedExtra (operatorOf v))) b)
     ∙ numbers-limit (a .kind) (a .left) (a .target-case) (a .target) (a .extra-case) (a .extra) (c .before .before .before .before .if1 .taken) (so (c .before .before .before .has-operator .ensures ∙ ap (hasOperator (a .extra-case)) b) (c .before .before .if2 .taken))
 
--- src/constraints.rt:93:9
 refuse-requires : tie.Need-refuse-requires
 refuse-requires c κs = search needs
 
--- src/constraints.rt:93:9
 returns-2 : tie.Need-returns-2
 returns-2 c =
     let a = c .before .before .before .before .args in
     let b = back w32 (a .extra) (c .before .before .before .before .fits .extra .sfits) in
     c .refuse .ensures ∙ numbers-refused (a .kind) (a .left) (a .target-case) (a .target) (a .extra-case) (a .extra) (c .before .before .before .if1 .taken) (so (c .before .before .has-operator .ensures ∙ ap (hasOperator (a .extra-case)) b) (c .before .if2 .left))
 
--- src/constraints.rt:95:9
 has-extra-requires : tie.Need-has-extra-requires
 has-extra-requires c κs = search needs
 
--- src/constraints.rt:97:9
 negated-kind-requires : tie.Need-negated-kind-requires
 negated-kind-requires c κs = search needs
 
--- src/constraints.rt:101:9
 keep-requires : tie.Need-keep-requires
 keep-requires c κs = search needs
 
--- src/constraints.rt:102:9
 keep-signed-requires : tie.Need-keep-signed-requires
 keep-signed-requires c κs = search needs
 
--- src/constraints.rt:96:5
 negated-with-requires-2 : tie.Need-negated-with-requires-2
 negated-with-requires-2 c κs = search needs
 
--- src/constraints.rt:77:1
 returns-3 : tie.Need-returns-3
 returns-3 c =
     let a = c .before .before .before .before .before .before .args in

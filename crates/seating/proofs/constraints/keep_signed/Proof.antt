@@ -3,11 +3,9 @@ use Rattle.counting.specs.Signed.{back}
 use Rattle.seating.proofs.constraints.keep_signed.Statement.{statement}
 use Rattle.seating.proofs.constraints.keep_signed.Tie as tie
 
--- src/constraints.rt:49:9
 returns : tie.Need-returns
 returns c = rw (c .if1 .taken) (back w32 (c .before .args .n) (c .before .fits .n .sfits))
 
--- src/constraints.rt:45:1
 returns-2 : tie.Need-returns-2
 returns-2 c = rw (c .if1 .left)
 

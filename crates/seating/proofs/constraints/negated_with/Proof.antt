@@ -4,19 +4,15 @@ use borrow.Author.Needs.{needs}
 use Rattle.seating.proofs.constraints.negated_with.Statement.{statement}
 use Rattle.seating.proofs.constraints.negated_with.Tie as tie
 
--- src/constraints.rt:65:9
 is-target-requires : tie.Need-is-target-requires
 is-target-requires c κs = search needs
 
--- src/constraints.rt:70:22
 keep-requires : tie.Need-keep-requires
 keep-requires c κs = search needs
 
--- src/constraints.rt:71:17
 keep-requires-2 : tie.Need-keep-requires-2
 keep-requires-2 c κs = search needs
 
--- src/constraints.rt:55:1
 returns : tie.Need-returns
 returns c = rw (c .keep2 .ensures, c .before .keep .ensures, c .before .before .is-target .ensures, back w32 (c .before .before .before .args .extra) (c .before .before .before .fits .extra .sfits))
 

@@ -3,36 +3,27 @@ use native.Mathlib.Omega.{arith}
 use borrow.Author.Needs.{needs}
 use Rattle.seating.proofs.scores.best_bits.Statement.{statement}
 use Rattle.seating.proofs.scores.best_bits.Tie as tie
-use Rattle.seating.proofs.scores.best_bits.Reads as reads
-use Rattle.seating.proofs.scores.best_bits.Lts as lts
 use Rattle.seating.proofs.scores.bits_of.Reads as bits-of-reads
 use Rattle.seating.proofs.scores.refuse.Reads as refuse-reads
 
--- src/scores.rt:107:28
 enum-told : tie.Need-enum-told
 enum-told c = search needs
 
--- src/scores.rt:107:28
 refuse-requires : tie.Need-refuse-requires
 refuse-requires c κs = search needs
 
--- src/scores.rt:108:23
 enum-known-best : tie.Need-enum-known-best
 enum-known-best c = search needs
 
--- src/scores.rt:111:23
 cast-t5 : tie.Need-cast-t5
 cast-t5 c = let h : c .before .before .best .given .0 .0 .position < 64 = rw (c .before .before .best .given .1) at (c .before .before .before .before .pre .place) in omega arith
 
--- src/scores.rt:112:20
 bits-of-requires : tie.Need-bits-of-requires
 bits-of-requires c κs = search needs
 
--- src/scores.rt:101:1
 returns : tie.Need-returns
 returns c = simp (c .before .enum-told .given .1) (c .refuse .ensures)
 
--- src/scores.rt:101:1
 returns-2 : tie.Need-returns-2
 returns-2 c = simp (c .before .before .before .best .given .1, c .bits-of .ensures)
 

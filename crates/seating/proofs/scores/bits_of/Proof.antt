@@ -1,19 +1,14 @@
 use borrow.Author.Needs.{needs}
 use Rattle.seating.proofs.scores.bits_of.Statement.{statement}
 use Rattle.seating.proofs.scores.bits_of.Tie as tie
-use Rattle.seating.proofs.scores.bits_of.Reads as reads
-use Rattle.seating.proofs.scores.bits_of.Lts as lts
 use Rattle.score.proofs.bits.Reads as bits-reads
 
--- src/scores.rt:30:16
 bits-requires : tie.Need-bits-requires
 bits-requires c κs = search needs
 
--- src/scores.rt:31:16
 bits-requires-2 : tie.Need-bits-requires-2
 bits-requires-2 c κs = search needs
 
--- src/scores.rt:26:1
 returns : tie.Need-returns
 returns c = simp (c .before .bits .ensures, c .bits2 .ensures)
 

@@ -1,5 +1,6 @@
 use mathlib.Core.Path.{_∙_, ap}
-use Rattle.seating.specs.Scores.{bestBits, near}
+use Rattle.seating.specs.Scores.{bestBits}
+use Rattle.seating.specs.ScoresLaws.{near}
 use borrow.Author.Needs.{needs}
 use Rattle.seating.proofs.scores.cendravoka_best.Statement.{statement}
 use Rattle.seating.proofs.scores.cendravoka_best.Tie as tie

@@ -5,20 +5,15 @@ use Rattle.score.specs.Order.{orderNumber}
 use borrow.Author.Needs.{needs}
 use Rattle.seating.proofs.scores.cendravoka_compare.Statement.{statement}
 use Rattle.seating.proofs.scores.cendravoka_compare.Tie as tie
-use Rattle.seating.proofs.scores.cendravoka_compare.Reads as reads
-use Rattle.seating.proofs.scores.cendravoka_compare.Lts as lts
 use Rattle.score.proofs.Ordering.number.Reads as number-reads
 use Rattle.score.proofs.Score.cmp.Reads as cmp-reads
 
--- src/scores.rt:75:5
 cmp-requires : tie.Need-cmp-requires
 cmp-requires c κs = search needs
 
--- src/scores.rt:75:5
 number-requires : tie.Need-number-requires
 number-requires c κs = search needs
 
--- src/scores.rt:58:1
 returns : tie.Need-returns
 returns c = back w32 (c .number .result) (c .number .ok) ∙ c .number .ensures ∙ ap orderNumber (c .before .cmp .ensures)
 

@@ -3,20 +3,15 @@ use Rattle.seating.specs.Scores.{scoreBits}
 use borrow.Author.Needs.{needs}
 use Rattle.seating.proofs.scores.cendravoka_infinite.Statement.{statement}
 use Rattle.seating.proofs.scores.cendravoka_infinite.Tie as tie
-use Rattle.seating.proofs.scores.cendravoka_infinite.Reads as reads
-use Rattle.seating.proofs.scores.cendravoka_infinite.Lts as lts
 use Rattle.score.proofs.Score.infinite.Reads as infinite-reads
 use Rattle.seating.proofs.scores.bits_of.Reads as bits-of-reads
 
--- src/scores.rt:82:13
 infinite-requires : tie.Need-infinite-requires
 infinite-requires c κs = search needs
 
--- src/scores.rt:82:5
 bits-of-requires : tie.Need-bits-of-requires
 bits-of-requires c κs = search needs
 
--- src/scores.rt:78:1
 returns : tie.Need-returns
 returns c = c .bits-of .ensures ∙ ap scoreBits (c .before .infinite .ensures)
 

@@ -1,0 +1,40 @@
+use borrow.Author.Needs.{needs}
+use Rattle.preference_search.proofs.steps.low_after.Statement.{statement}
+use Rattle.preference_search.proofs.steps.low_after.Tie as tie
+
+enum-told : tie.Need-enum-told
+enum-told c = search needs
+
+enum-told-2 : tie.Need-enum-told-2
+enum-told-2 c = search needs
+
+add-result : tie.Need-add-result
+add-result c = search needs
+
+enum-told-3 : tie.Need-enum-told-3
+enum-told-3 c = search needs
+
+add-result-2 : tie.Need-add-result-2
+add-result-2 c = search needs
+
+returns : tie.Need-returns
+returns c = search needs
+
+returns-2 : tie.Need-returns-2
+returns-2 c = simp (c .enum-told2 .given .1)
+
+returns-3 : tie.Need-returns-3
+returns-3 c = simp (c .enum-told3 .given .1)
+
+pub low-after-spec : {M : Type 1} → statement M
+low-after-spec =
+    tie.close
+    (tie.spec
+    enum-told
+    enum-told-2
+    add-result
+    enum-told-3
+    add-result-2
+    returns
+    returns-2
+    returns-3)

@@ -1,0 +1,3 @@
+-- The numbers of begin and tell.
+pub mod Checks
+pub mod Numbers

@@ -1,0 +1,1 @@
+// Definitions and theorems only: whole runs of the preference search, and what they remember.

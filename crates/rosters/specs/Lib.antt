@@ -1,0 +1,3 @@
+-- assignment.rs: rosters.
+pub mod Calls
+pub mod Laws
