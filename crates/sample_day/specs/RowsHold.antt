@@ -1,7 +1,7 @@
 -- The rows of the sample day hold. Each number is computed by itself: together they are too much for one computation. Assumes nothing.
 use Prim.Native.Nat.{ℕ, _<_}
 use mathlib.Core.Path.{_≡_, refl, sym, ap, ap₂, _∙_}
-use mathlib.Core.Bool.{true, false, cond}
+use mathlib.Core.Bool.{true, false, cond, not}
 use mathlib.Core.List.{List, [], _∷_}
 use native.Mathlib.Omega.{arith}
 use lib.Dec.{eqb, leb}
@@ -12,9 +12,9 @@ use borrow.Author.Tests.{le-ltb, lt-leb}
 use Rattle.assignment.specs.Plan.{badPlanFor}
 use Rattle.preference_search_checks.specs.Checks.{beginNumber}
 use Rattle.assignment_solver.specs.Calls.{beginAnswer}
-use Rattle.preference_search_runs.specs.Run.{counted, RunIsSearch}
-use Rattle.preference_search.specs.Search.{Told, askAt, startOf, middle, searchFrom, searchLevels}
-use Rattle.preference_search.specs.Steps.{remembers, begunLevels, begunAnswer, next}
+use Rattle.preference_search_runs.specs.Run.{counted, outcome, RunIsSearch}
+use Rattle.preference_search.specs.Search.{Told, Ask, Outcome, askAt, foundAt, startOf, middle, searchFrom, searchLevels}
+use Rattle.preference_search.specs.Steps.{knownBy, remembers, begunLevels, begunAnswer, next}
 use Rattle.preference_search_runs.specs.Whole.{run-is-search}
 use Rattle.preference_search.specs.declared.Known.{Known}
 use Rattle.carried_states.specs.Agreement.{Call, Carried, numberOf, afterBuild, updated}
@@ -44,6 +44,7 @@ use Rattle.schedule_state.specs.Calls as State
 use Rattle.schedule_updates.specs.Numbers.{update-accepted}
 use Rattle.schedule_state.specs.State.{miscountedIn, misblocked}
 use Rattle.schedule_state.specs.declared.AssignmentScheduleState.{AssignmentScheduleState}
+use Rattle.scheduling.specs.Handed.{keptOf}
 use Rattle.scheduling.specs.declared.Scheduling.{Scheduling}
 use Rattle.score.specs.Sample.{minus-zero-first}
 use Rattle.feasibility.specs.Checks.{partsNumber}
@@ -59,7 +60,7 @@ use Rattle.model_buffers.specs.Buffers as Room
 use Rattle.flow_model.specs.Lent as Filled
 use Rattle.model_buffers.specs.Answers as Counts
 use Rattle.flow_model.specs.Calls as Model
-use Rattle.sample_day.specs.SampleDay.{sampleDay, tiedDay, searchDay, atFirst, moved, preferences, costs, buffer, buildNumberOf, buildGives, buildLeaves, moveNumber, moveGives, moveLeaves, listNumber, slotListOf, atLimitOne, zeros, modelNumberOf, modelGives, modelLeaves, valued, zeroPlan, enterNumberOf, valuesNumberOf, valuesGive, planLeft, scoreGiven, levels, nothingCached, beginAt, answers, lastAnswer, planned}
+use Rattle.sample_day.specs.SampleDay.{sampleDay, tiedDay, searchDay, atFirst, moved, preferences, costs, buffer, buildNumberOf, buildGives, buildLeaves, moveNumber, moveGives, moveLeaves, listNumber, slotListOf, atLimitOne, zeros, modelNumberOf, modelGives, modelLeaves, valued, zeroPlan, enterNumberOf, valuesNumberOf, valuesGive, planLeft, scoreGiven, levels, nothingCached, beginAt, answers, lastAnswer, runOf, planned}
 use Rattle.sample_day.specs.Rows.{Builds, Moves, Models, Searches, rows, All}
 
 -- ---- build
@@ -304,35 +305,32 @@ begin-five = refl
 begun : (bound : ℕ) (ts : List Told) → RunIsSearch fullDay searchDay atFirst levels bound false nothingCached (beginAt bound) ts
 begun bound ts = run-is-search fullDay searchDay atFirst levels bound false nothingCached full-within search-accepted ts
 
+-- a run whose search ends with the sample plan, found at a level
+ended-at : (bound level : ℕ) (ts : List Told) (asks : List Ask) → beginAt bound .number ≡ 0
+    → outcome searchDay atFirst levels bound false nothingCached (counted fullDay searchDay (keptOf searchDay atFirst) ts) ≡ record { asks = asks; known = foundAt 4 level planned true; over = true }
+    → Searches bound ts asks (length asks) level
+unfolding foldTo
+ended-at bound level ts asks e p =
+    let r = begun bound ts .is in
+    let knows : knownBy (runOf bound ts .search) ≡ foundAt 4 level planned true = r .knows-it ∙ ap (λ (o : Outcome). o .known) p in
+    record {
+      begun = e;
+      asks-are = r .asks-are ∙ ap (λ (o : Outcome). o .asks) p;
+      counted = r .count-is ∙ ap (λ (o : Outcome). length (o .asks)) p;
+      over = r .waits ∙ ap (λ (o : Outcome). not (o .over)) p;
+      found = ap (λ (k : Known). k .found) knows;
+      optimal = ap (λ (k : Known). k .optimal) knows;
+      level-is = ap (λ (k : Known). k .level) knows;
+      plan-is = ap (λ (k : Known). take 4 (k .plan)) knows;
+    }
+
 two-asks : Searches 0 answers (askAt 2 2 ∷ askAt 3 3 ∷ []) 2 3
 unfolding remembers counted badPlanFor searchLevels searchFrom startOf firstTo middle foldTo
-two-asks =
-    let r = begun 0 answers .is in
-    record {
-      begun = begin-zero;
-      asks-are = r .asks-are;
-      counted = r .count-is;
-      over = r .waits;
-      found = ap (λ (k : Known). k .found) (r .knows-it);
-      optimal = ap (λ (k : Known). k .optimal) (r .knows-it);
-      level-is = ap (λ (k : Known). k .level) (r .knows-it);
-      plan-is = ap (λ (k : Known). take 4 (k .plan)) (r .knows-it);
-    }
+two-asks = ended-at 0 3 answers (askAt 2 2 ∷ askAt 3 3 ∷ []) begin-zero refl
 
 one-ask : Searches 5 lastAnswer (askAt 4 4 ∷ []) 1 4
 unfolding remembers counted badPlanFor searchLevels searchFrom startOf firstTo middle foldTo
-one-ask =
-    let r = begun 5 lastAnswer .is in
-    record {
-      begun = begin-five;
-      asks-are = r .asks-are;
-      counted = r .count-is;
-      over = r .waits;
-      found = ap (λ (k : Known). k .found) (r .knows-it);
-      optimal = ap (λ (k : Known). k .optimal) (r .knows-it);
-      level-is = ap (λ (k : Known). k .level) (r .knows-it);
-      plan-is = ap (λ (k : Known). take 4 (k .plan)) (r .knows-it);
-    }
+one-ask = ended-at 5 4 lastAnswer (askAt 4 4 ∷ []) begin-five refl
 
 -- ---- all rows
 

@@ -30,7 +30,7 @@ element-copy-out-difference : tie.Need-element-copy-out-difference Inv-loop μ-l
 element-copy-out-difference c = search needs
 
 difference-requires : tie.Need-difference-requires Inv-loop μ-loop
-difference-requires c κs = (omega (arith, c .before .before .before .before .pre .3 _ (c .before .loop-test .taken)), omega arith)
+difference-requires c κs = let covered = c .before .before .before .before .pre .3 _ (c .before .loop-test .taken) in (omega (arith, covered), omega (arith, covered))
 
 add-t14 : tie.Need-add-t14 Inv-loop μ-loop
 add-t14 c = search needs

@@ -8,7 +8,7 @@ use Rattle.constraint.proofs.ConstraintExtra.case.Reads as case-reads
 use Rattle.constraint.proofs.ConstraintExtra.of.Reads as of-reads
 
 returns : tie.Need-returns
-returns c = simp (lt-ltb _ _ (c .if1 .taken))
+returns c = simp (lt-ltb (c .before .before .args .c .kind) 5 (c .if1 .taken))
 
 of-requires : tie.Need-of-requires
 of-requires c κs = search needs
