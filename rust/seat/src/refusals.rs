@@ -2,12 +2,46 @@
 
 const README: &str = include_str!("../../../README.md");
 
-/// The number with its two sentences.
-pub fn told(number: u32) -> String {
-    let (what, remedy) = row(number).unwrap_or(("not in the table", "look it up in README.md"));
-    format!("refused by {number}: {what}\n  what to do: {remedy}\n")
+/// A call that the library refused.
+#[derive(Debug, Clone)]
+pub struct Refusal {
+    /// What was asked for, as `build`.
+    pub call: String,
+    pub number: u32,
+    /// The line that is to blame, where one is.
+    pub line: Option<usize>,
+    /// What is wrong there.
+    pub reason: String,
+    /// What to do about it.
+    pub remedy: &'static str,
 }
 
+/// Seats are given by a planner, not by a solver.
+const SEATS_REMEDY: &str = "mend the seats, or the limit";
+
+impl Refusal {
+    /// A refusal of which nothing more is known than its number.
+    pub fn new(call: &str, number: u32) -> Self {
+        let unknown = ("not in the table of README.md", "look it up in README.md");
+        let (reason, remedy) = row(number).unwrap_or(unknown);
+        Self { call: call.to_owned(), number, line: None, reason: reason.to_owned(), remedy }
+    }
+
+    /// The same, with what is wrong in this day.
+    pub fn because(self, found: Option<(Option<usize>, String)>) -> Self {
+        match found {
+            Some((line, reason)) => Self { line, reason, ..self },
+            None => self,
+        }
+    }
+
+    /// The same, of values that were made of seats.
+    pub fn of_seats(self) -> Self {
+        Self { remedy: SEATS_REMEDY, ..self }
+    }
+}
+
+/// What the number means, and what to do about it.
 fn row(number: u32) -> Option<(&'static str, &'static str)> {
     let front = format!("| {number} | ");
     let rest = README.lines().find_map(|line| line.strip_prefix(front.as_str()))?;

@@ -1,24 +1,69 @@
-//! The words of a line: numbers and constraints.
-use port::Constraint;
-use std::str::FromStr;
+//! The words of a line as numbers.
+use crate::source::shown;
 
 /// The words of a line after its first one.
 pub type Words<'a> = &'a [&'a str];
 
-/// A number of the type that is asked for.
-pub fn number<T: FromStr>(word: &str) -> Result<T, String> {
-    word.parse().map_err(|_| format!("'{}' is no number that fits here", shown(word)))
+/// A type of whole numbers.
+pub trait Whole: Sized {
+    const LEAST: i128;
+    const MOST: i128;
+    fn of(number: i128) -> Option<Self>;
 }
 
-pub fn numbers<T: FromStr>(words: Words) -> Result<Vec<T>, String> {
+macro_rules! whole {
+    ($($name:ident)*) => {
+        $(impl Whole for $name {
+            const LEAST: i128 = $name::MIN as i128;
+            const MOST: i128 = $name::MAX as i128;
+            fn of(number: i128) -> Option<Self> {
+                number.try_into().ok()
+            }
+        })*
+    };
+}
+
+whole!(u8 u32 usize i32 i64);
+
+/// A whole number of the type that is asked for.
+pub fn number<T: Whole>(word: &str) -> Result<T, String> {
+    let digits = word.strip_prefix('-').unwrap_or(word);
+    if let Some(rest) = word.strip_prefix('+') {
+        return Err(format!("'{}' has a plus sign: write '{}'", shown(word), shown(rest)));
+    }
+    if digits.is_empty() || !digits.bytes().all(|byte| byte.is_ascii_digit()) {
+        return Err(format!("'{}' is no whole number", shown(word)));
+    }
+    let outside = || format!("'{}' is not from {} to {}", shown(word), T::LEAST, T::MOST);
+    word.parse().ok().and_then(T::of).ok_or_else(outside)
+}
+
+pub fn numbers<T: Whole>(words: Words) -> Result<Vec<T>, String> {
     words.iter().map(|word| number(word)).collect()
 }
 
 /// The one number of a line.
-pub fn one<T: FromStr>(words: Words) -> Result<T, String> {
+pub fn one<T: Whole>(words: Words) -> Result<T, String> {
     match words {
         [word] => number(word),
         _ => Err("one number belongs here".to_owned()),
+    }
+}
+
+/// The powers of a line: finite numbers, as '8' or '0.125'.
+pub fn powers(words: Words) -> Result<Vec<f32>, String> {
+    words.iter().map(|word| power(word)).collect()
+}
+
+fn power(word: &str) -> Result<f32, String> {
+    let is_decimal = |byte: u8| byte.is_ascii_digit() || b"-.eE+".contains(&byte);
+    if !word.bytes().all(is_decimal) || word.starts_with('+') {
+        return Err(format!("'{}' is no power: write a number as 8 or 0.125", shown(word)));
+    }
+    match word.parse::<f32>() {
+        Ok(power) if power.is_finite() => Ok(power),
+        Ok(_) => Err(format!("'{}' is too large for a power", shown(word))),
+        Err(_) => Err(format!("'{}' is no power: write a number as 8 or 0.125", shown(word))),
     }
 }
 
@@ -28,64 +73,34 @@ pub fn entry(word: &str) -> Result<u8, String> {
         return Ok(0);
     }
     let slot = number::<u8>(word)?;
-    slot.checked_add(1).ok_or_else(|| format!("{slot} is more than a schedule can hold"))
+    slot.checked_add(1).ok_or_else(|| format!("'{slot}' is more than a schedule can hold"))
 }
 
-/// The front of a word: it may be very long.
-pub fn shown(word: &str) -> String {
-    let front = word.chars().take(40).collect::<String>();
-    if front.len() < word.len() { front + ".." } else { front }
-}
+#[cfg(test)]
+mod tests {
+    use super::{entry, number, power};
 
-/// The cases of a target, and of an extra.
-const SLOT: u32 = 1;
-const CHOICE: u32 = 2;
-const CHOOSER: u32 = 3;
-const LIMIT: u32 = 4;
-const OFFSET: u32 = 1;
-const OPERATOR: u32 = 2;
+    #[test]
+    fn numbers_are_digits() {
+        assert_eq!((number("7"), number("-7"), number("007")), (Ok(7_u32), Ok(-7_i32), Ok(7_u8)));
+        for word in ["", "-", "+2", "2.0", "0x2", "٢", "1_0", "--1"] {
+            assert!(number::<i64>(word).is_err(), "{word}");
+        }
+        assert!(number::<u8>("256").is_err() && number::<u32>("-1").is_err());
+        assert!(number::<i64>(&"9".repeat(60)).is_err());
+    }
 
-/// The names of the kinds, their numbers and the cases of their targets.
-const KINDS: [(&str, u32, u32); 10] = [
-    ("choice_is_in_slot", 1, SLOT),
-    ("choice_is_not_in_slot", 2, SLOT),
-    ("choices_are_in_same_slot", 3, CHOICE),
-    ("choices_are_not_in_same_slot", 4, CHOICE),
-    ("choices_have_offset", 5, CHOICE),
-    ("slot_has_limited_size", 6, LIMIT),
-    ("choices_have_same_choosers", 65_536, CHOICE),
-    ("chooser_is_in_choice", 65_537, CHOICE),
-    ("chooser_is_not_in_choice", 65_538, CHOICE),
-    ("choosers_have_same_choices", 65_539, CHOOSER),
-];
+    #[test]
+    fn powers_are_finite() {
+        assert_eq!((power("0.125"), power("-1e3")), (Ok(0.125), Ok(-1_000.0)));
+        for word in ["NaN", "inf", "-infinity", "+1", "1e39", "8,0", "", "."] {
+            assert!(power(word).is_err(), "{word}");
+        }
+    }
 
-const OPERATORS: [(&str, i32); 6] =
-    [("=", 1), (">", 2), (">=", 3), ("!=", -1), ("<=", -2), ("<", -3)];
-
-/// A constraint: its name and its operands. Whether it belongs to its list and to
-/// the day is for the library to say.
-pub fn constraint(words: Words) -> Result<Constraint, String> {
-    let [name, operands @ ..] = words else {
-        return Err("the name of a constraint belongs here".to_owned());
-    };
-    let known = KINDS.iter().find(|(own, _, _)| own == name);
-    let Some(&(_, kind, target_case)) = known else {
-        return Err(format!("'{}' is no constraint", shown(name)));
-    };
-    let (left, target, extra_case, extra) = match (target_case, operands) {
-        (LIMIT, [slot, operator, limit]) => (slot, limit, OPERATOR, operator_of(operator)?),
-        (CHOICE, [left, right, offset]) if kind == 5 => (left, right, OFFSET, number(offset)?),
-        (case, [left, right]) if case != LIMIT && kind != 5 => (left, right, 0, 0),
-        _ => return Err(format!("{name} has other operands")),
-    };
-    let (left, target) = (number(left)?, number(target)?);
-    Ok(Constraint { kind, left, target_case, target, extra_case, extra })
-}
-
-fn operator_of(word: &str) -> Result<i32, String> {
-    let known = OPERATORS.iter().find(|(own, _)| *own == word);
-    known.map(|(_, number)| *number).ok_or_else(|| {
-        let names = OPERATORS.map(|(name, _)| name).join(" ");
-        format!("'{}' is none of {names}", shown(word))
-    })
+    #[test]
+    fn entries_name_slots() {
+        assert_eq!((entry("-"), entry("0"), entry("254")), (Ok(0), Ok(1), Ok(255)));
+        assert!(entry("255").is_err());
+    }
 }
