@@ -1,4 +1,4 @@
--- A plan read by chooser and slot (document 01's plan is the Rust's Assignment), check 13, and rosters. Definitions only.
+-- A plan read by chooser and slot (the Rust's Assignment), check 13, and rosters: SPEC 1.5, 3.13, 8.1 to 8.6. Definitions only.
 use Prim.Native.Nat.{ℕ, _+_, _*_}
 use mathlib.Core.Bool.{Bool, not, _||_}
 use mathlib.Core.List.{List, [], _∷_}

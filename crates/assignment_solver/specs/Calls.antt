@@ -1,4 +1,4 @@
--- What the calls begin and tell give, refused or done. Definitions only.
+-- What the calls begin and tell give, refused or done: SPEC 3.21, 9.1. Definitions only.
 use Prim.Native.Nat.{ℕ}
 use mathlib.Core.Bool.{Bool, cond}
 use mathlib.Core.List.{List}

@@ -1,4 +1,4 @@
--- Which choosers' edges a schedule blocks, from document 01, "State carried from schedule to schedule". Definitions only.
+-- Which choosers' edges a schedule blocks: SPEC 5.3. Definitions only.
 use Prim.Native.Nat.{ℕ, _+_, _*_}
 use mathlib.Core.Bool.{Bool, not, _&&_, _||_}
 use mathlib.Core.List.{List}

@@ -1,7 +1,7 @@
--- The first half of demand 3: what is carried from schedule to schedule agrees with a fresh build.
+-- The first half of demand 3: what is carried from schedule to schedule agrees with a fresh build. SPEC 5.16, 12.1 to 12.3.
 -- Statement only; the proof is `carried-agrees` in CarriedAgrees.antt.
 --
--- It rests on the contracts of `build` and `update` in schedule_state's src/state.rt, the promises Built and Updated of its Calls.antt, which cite the definitions used here:
+-- It rests on the contracts of `build` and `update` in schedule_updates' src/state.rt, the promises Built and Updated of schedule_state's Calls.antt, which cite the definitions used here:
 --   build    gives buildNumber, and where that is 0 the state builtState and the slot lists builtLists
 --   update   gives updateNumber, and where that is 0 the state updatedState and the slot lists updatedLists
 -- both within limits, of the day, state and schedule that the lent bytes stand for, where all bytes have their lengths

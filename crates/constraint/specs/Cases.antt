@@ -1,4 +1,4 @@
--- Operators, targets and extras, and the numbers by which they cross a boundary. Definitions only.
+-- Operators, targets and extras, and the numbers by which they cross a boundary: SPEC 2.14, 4.6, 4.9. Definitions only.
 use Prim.Native.Nat.{ℕ}
 use mathlib.Core.Bool.{cond}
 use mathlib.Core.List.{List, [], _∷_}

@@ -1,4 +1,4 @@
--- The kinds of constraints and their numbers, from constraint.rs. Definitions only.
+-- The kinds of constraints and their numbers, from constraint.rs: SPEC 2.14, 4.2, 4.10. Definitions only.
 use Prim.Native.Nat.{ℕ}
 use mathlib.Core.Bool.{Bool, cond, not, _&&_}
 use mathlib.Core.List.{List, [], _∷_}

@@ -1,4 +1,4 @@
--- Negation of a constraint, from constraint.rs and document 01. Definitions only.
+-- Negation of a constraint, from constraint.rs: SPEC 4.1, 4.2, 4.8. Definitions only.
 use Prim.Native.Nat.{ℕ}
 use mathlib.Core.Bool.{cond}
 use lib.IntN.{ℤ}

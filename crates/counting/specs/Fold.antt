@@ -1,4 +1,4 @@
--- What is made of f 0, f 1, .., f (n - 1): one recursion, and the names of its uses. Definitions only.
+-- What is made of f 0, f 1, .., f (n - 1): one recursion, and the names of its uses. SPEC 2.17. Definitions only.
 use Prim.Native.Nat.{ℕ, zero, suc, _+_, _<_}
 use mathlib.Core.Bool.{Bool, true, false, cond, _&&_, _||_}
 use mathlib.Core.List.{List, [], _∷_, _++_}

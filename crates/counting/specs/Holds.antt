@@ -1,4 +1,4 @@
--- A list as a set: how often each number occurs in it. Definitions only.
+-- A list as a set: how often each number occurs in it. SPEC 2.17. Definitions only.
 use Prim.Native.Nat.{ℕ}
 use mathlib.Core.Bool.{Bool}
 use lib.Dec.{eqb}

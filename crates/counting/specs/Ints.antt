@@ -1,4 +1,4 @@
--- Whether two integers are equal. Definitions only.
+-- Whether two integers are equal. SPEC 2.17. Definitions only.
 use mathlib.Core.Bool.{Bool, false}
 use lib.Dec.{eqb}
 use lib.IntN.{ℤ, pos, negsuc}

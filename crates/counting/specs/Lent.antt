@@ -1,4 +1,4 @@
--- What lies behind a reference as a call begins and as it ends. Definitions only.
+-- What lies behind a reference as a call begins and as it ends. SPEC 2.17. Definitions only.
 use denote.Ref.{RefT, now}
 use denote.Triple.Both.{Both}
 

@@ -1,4 +1,4 @@
--- The first index at which a test passes. Definitions only.
+-- The first index at which a test passes. SPEC 2.17. Definitions only.
 use Prim.Native.Nat.{ℕ, suc, _+_, _-_, _<_}
 use mathlib.Core.Bool.{Bool, cond}
 use lib.Dec.{ltb}

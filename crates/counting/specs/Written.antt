@@ -1,4 +1,4 @@
--- A lent buffer after a run of stores. Definitions only.
+-- A lent buffer after a run of stores. SPEC 2.13. Definitions only.
 use Prim.Native.Nat.{ℕ}
 use mathlib.Core.List.{List}
 use lib.Seq.{sets}

@@ -1,4 +1,4 @@
--- The plan that edge values decode to, from document 01, "The model". Definitions only.
+-- The plan that edge values decode to: SPEC 7.6. Definitions only.
 use Prim.Native.Nat.{ℕ}
 use mathlib.Core.Bool.{Bool, _&&_}
 use mathlib.Core.List.{List}

@@ -1,4 +1,4 @@
--- What lists of named edges become: groups and the blocked list. An edge is there if its number is below n. Definitions only.
+-- What lists of named edges become: groups and the blocked list (SPEC 6.11, 6.12). An edge is there if its number is below n. Definitions only.
 use Prim.Native.Nat.{ℕ, _+_, _≤_}
 use mathlib.Core.Path.{_≡_}
 use mathlib.Core.Bool.{Bool, true, not, _&&_}

@@ -1,4 +1,4 @@
--- Which edges constraints and dependent groups name together, from document 01, "The model". Definitions only.
+-- Which edges constraints and dependent groups name together: SPEC 6.9, 6.10. Definitions only.
 -- An edge is said by its chooser and its choice; `edge c k` is what stands for it: its number, or any other name.
 use Prim.Native.Nat.{ℕ, _+_}
 use mathlib.Core.Bool.{not}

@@ -1,4 +1,4 @@
--- Checks 14 to 17 of document 01. Balance is that of Ahuja, Magnanti and Orlin, "Network Flows": what flows out of a node, less what
+-- Checks 14 to 17: SPEC 3.14 to 3.17, 7.1 to 7.5. Balance is that of Ahuja, Magnanti and Orlin, "Network Flows": what flows out of a node, less what
 -- flows in, is what the node supplies. Definitions only.
 use Prim.Native.Nat.{ℕ}
 use mathlib.Core.Bool.{Bool, cond, not, _||_}

@@ -1,4 +1,4 @@
--- 11 and 13 of a schedule and a plan. Definitions only.
+-- 11 and 13 of a schedule and a plan: SPEC 3.11, 3.13. Definitions only.
 use Prim.Native.Nat.{ℕ}
 use mathlib.Core.Bool.{Bool, _&&_}
 use mathlib.Core.List.{List}

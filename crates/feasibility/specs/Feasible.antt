@@ -1,4 +1,4 @@
--- Scheduling::is_feasible and Scoring::is_feasible, on day, schedule and plan. Definitions only.
+-- Scheduling::is_feasible and Scoring::is_feasible, on day, schedule and plan: SPEC 10.1 to 10.4. Definitions only.
 use Prim.Native.Nat.{ℕ}
 use mathlib.Core.Bool.{Bool, _&&_, _||_}
 use mathlib.Core.List.{List}

@@ -1,9 +1,8 @@
--- The premises of the feasibility rule, from document 01, "Verdict and score". Definitions only.
+-- The premises of the feasibility rule: SPEC 12.7. Definitions only.
 --
--- Document 01 names what is_feasible would miss a chooser in: ChooserIsInChoice, a min above 0 and
--- ChoicesHaveSameChoosers of an unscheduled choice. The Rust passes over unscheduled choices in all three
--- tests, so that the rule needs no premise about them. ChoicesHaveSameChoosers of one choice with itself
--- holds always.
+-- An unscheduled choice could break three tests of is_feasible: ChooserIsInChoice, a min above 0 and
+-- ChoicesHaveSameChoosers. The Rust passes over unscheduled choices in all three, so that the rule needs
+-- no premise about them (SPEC 12.8). ChoicesHaveSameChoosers of one choice with itself holds always.
 use Prim.Native.Nat.{ℕ, _<_}
 use mathlib.Core.Path.{_≡_}
 use mathlib.Core.Bool.{true}

@@ -1,4 +1,4 @@
--- What the calls that build a model and check values give and leave. Definitions only.
+-- What the calls that build a model and check values give and leave: SPEC 3.22, 6.13, 7.7. Definitions only.
 use Prim.Native.Nat.{ℕ}
 use mathlib.Core.Path.{_≡_}
 use mathlib.Core.Bool.{cond}

@@ -1,4 +1,4 @@
--- The model of a call's lent input, in the lent buffers: what writing it asks, and what it leaves. Definitions only.
+-- The model of a call's lent input, in the lent buffers: what writing it asks, and what it leaves. SPEC 6.12. Definitions only.
 use Prim.Native.Nat.{ℕ, _<_}
 use mathlib.Core.Path.{_≡_}
 use mathlib.Core.Bool.{Bool}

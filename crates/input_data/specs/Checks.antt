@@ -1,4 +1,4 @@
--- Checks 1 to 10 of document 01, each a test, and their order. Definitions only.
+-- Checks 1 to 10, each a test, and their order: SPEC 3.1 to 3.10, 3.19. Definitions only.
 use Prim.Native.Nat.{ℕ, _+_}
 use mathlib.Core.Bool.{Bool, true, cond, _&&_, _||_}
 use mathlib.Core.List.{List}

@@ -1,4 +1,4 @@
--- How definitions read a day (document 01's day is InputData). Definitions only.
+-- How definitions read a day: SPEC 1.2. Definitions only.
 use Prim.Native.Nat.{ℕ}
 use mathlib.Core.Bool.{Bool, false}
 use lib.IntN.{pos}

@@ -1,4 +1,4 @@
--- Limits and the named lengths of document 01, by one rule over the limits. Definitions only.
+-- Limits and the named lengths, by one rule over the limits: SPEC 2.1, 2.3. Definitions only.
 use Prim.Native.Nat.{ℕ, _+_, _*_, _≤_}
 use Rattle.input_data.specs.declared.Limits.{Limits}
 use Rattle.input_data.specs.declared.InputData.{InputData}

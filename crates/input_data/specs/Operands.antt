@@ -1,4 +1,4 @@
--- Check 9 of one constraint, from document 01 and constraint.rs. Definitions only.
+-- Check 9 of one constraint, from constraint.rs: SPEC 3.9, 4.2, 4.3. Definitions only.
 use Prim.Native.Nat.{ℕ}
 use mathlib.Core.Bool.{Bool, cond, not, _&&_, _||_}
 use lib.Dec.{eqb, ltb}

@@ -72,7 +72,7 @@ pub struct ConstraintList {
     pub entries: [ConstraintNumbers; 32],
 }
 
-// Document 01's day; it is lent as bytes. Dependent groups stand one after the other in `members`; `lengths` parts them.
+// The day (SPEC 1.2); it is lent as bytes. Dependent groups stand one after the other in `members`; `lengths` parts them.
 pub struct InputData {
     pub choosers: usize,
     pub choices: usize,

@@ -1,4 +1,4 @@
--- The edges of the flow model, from document 01, "The model". Definitions only.
+-- The edges of the flow model: SPEC 6.4 to 6.7. Definitions only.
 use Prim.Native.Nat.{ℕ, _+_, _-_, _*_, _≤_}
 use mathlib.Core.Bool.{Bool, false, not, _&&_}
 use mathlib.Core.List.{List, [], _∷_, _++_, map}

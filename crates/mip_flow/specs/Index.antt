@@ -1,4 +1,4 @@
--- The numbers of edges: an edge's number is its seat's place. Definitions only.
+-- The numbers of edges: an edge's number is its seat's place. SPEC 6.8. Definitions only.
 use Prim.Native.Nat.{ℕ, suc}
 use mathlib.Core.Bool.{cond}
 use mathlib.Core.List.{List, [], _∷_, map}

@@ -1,4 +1,4 @@
--- Node numbers by formula, and what each node supplies, from document 01, "The model". Definitions only.
+-- Node numbers by formula, and what each node supplies: SPEC 6.2, 6.3. Definitions only.
 use Prim.Native.Nat.{ℕ, _+_, _*_, _≤_, _<_}
 use mathlib.Core.Bool.{cond}
 use mathlib.Core.List.{List, _++_}

@@ -1,4 +1,4 @@
--- The answer of a call that builds a model: its number, and how much of the buffers is used. Definitions only.
+-- The answer of a call that builds a model: its number, and how much of the buffers is used. SPEC 3.21, 6.13. Definitions only.
 use Prim.Native.Nat.{ℕ}
 use Rattle.model_buffers.specs.declared.Counts.{Counts}
 use Rattle.model_buffers.specs.declared.ModelAnswer.{ModelAnswer}

@@ -1,4 +1,4 @@
--- The eight lent buffers of a model. Definitions only.
+-- The eight lent buffers of a model. SPEC 6.12. Definitions only.
 use Prim.Native.Nat.{ℕ}
 use mathlib.Core.List.{List}
 use lib.IntN.{ℤ}

@@ -1,4 +1,4 @@
--- Check 2 of the buffers that a model and its values are lent in. Definitions only.
+-- Check 2 of the buffers that a model and its values are lent in: SPEC 2.3, 3.2. Definitions only.
 use Prim.Native.Nat.{ℕ}
 use mathlib.Core.Bool.{Bool, _||_}
 use lib.Dec.{ltb}

@@ -1,4 +1,4 @@
--- Scoring::evaluate, from document 01, "Verdict and score". Definitions only.
+-- Scoring::evaluate: SPEC 11.2, 11.3. Definitions only.
 use mathlib.Core.Bool.{Bool, cond}
 use mathlib.Core.List.{List}
 use Prim.Native.Nat.{ℕ}

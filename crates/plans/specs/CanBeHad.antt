@@ -1,6 +1,7 @@
--- Which plans can be had from a state at a limit. Statement only; the proofs are `plans-seatable`, `same-plans` and `within-limit` in Plans.antt.
+-- Which plans can be had from a state at a limit: SPEC 7.8, 7.9, 12.5. Statement only; the proofs are `plans-seatable`, `same-plans` and `within-limit` in Plans.antt.
 --
--- It rests on the contract of `check_values`, which cites the definitions used here: checkNumber and planOf, at fullDay.
+-- It rests on the contract of `check_values`, the promise ValuesLent of flow_model's Calls.antt, at fullDay: it cites planOf,
+-- and enterNumber and valuesNumber, of which checkNumber is made.
 use Prim.Native.Nat.{ℕ, _+_, _*_, _<_, _≤_}
 use mathlib.Core.Path.{_≡_}
 use mathlib.Core.List.{List}
@@ -13,7 +14,7 @@ use Rattle.model_buffers.specs.declared.Lengths.{Lengths}
 use Rattle.plans.specs.Model.{ModelInput, entriesOf, modelNumber, checkNumber, planOf}
 use Rattle.plans.specs.Seatable.{Seatable, choiceIn}
 
--- document 01: a plan can be had from a state, at a limit, when some accepted values decode to it
+-- SPEC 7.8: some accepted values decode to the plan
 pub record CanBeHad (l : Limits) (x : ModelInput) (plan : List ℕ) : Type 0 where
   pub lengths : Lengths
   pub room : ℕ

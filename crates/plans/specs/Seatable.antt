@@ -1,4 +1,4 @@
--- Which plans seat everybody as the day asks: no slot list, no edge and no order in it. Definitions only.
+-- Which plans seat everybody as the day asks: no slot list, no edge and no order in it. SPEC 7.9. Definitions only.
 use Prim.Native.Nat.{ℕ, suc, _+_, _-_, _*_, _<_, _≤_}
 use mathlib.Core.Path.{_≡_}
 use mathlib.Core.Bool.{Bool, false}

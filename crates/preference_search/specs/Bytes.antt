@@ -1,4 +1,4 @@
--- A search and what it remembers, lent as bytes, and what they stand for. Definitions only.
+-- A search and what it remembers, lent as bytes, and what they stand for: SPEC 2.9, 2.10. Definitions only.
 use Prim.Native.Nat.{ℕ}
 use mathlib.Core.Path.{_≡_}
 use mathlib.Core.Bool.{Bool}

@@ -1,4 +1,4 @@
--- Document 01's preference search, whole, as a function of the answers that it is given in order. Definitions only.
+-- The preference search, whole, as a function of the answers that it is given in order: SPEC 9.2 to 9.9, 9.11. Definitions only.
 use Prim.Native.Nat.{ℕ, _+_, _-_, _/_, min}
 use mathlib.Core.Bool.{Bool, true, false, cond}
 use mathlib.Core.List.{List, [], _∷_}

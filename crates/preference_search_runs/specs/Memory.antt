@@ -1,4 +1,4 @@
--- What a run of a search remembers serves later searches of its day and setting: the statement, over the calls' answers. Proved in Remembered.antt. Definitions only.
+-- What a run of a search remembers serves later searches of its day and setting (SPEC 9.19): the statement, over the calls' answers. Proved in Remembered.antt. Definitions only.
 use Prim.Native.Nat.{ℕ, _<_}
 use mathlib.Core.Path.{_≡_}
 use mathlib.Core.Bool.{Bool, true, false}

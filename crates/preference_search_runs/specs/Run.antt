@@ -1,4 +1,4 @@
--- A whole run of a search: begun by its call, and told answer after answer. That it is document 01's search is stated here, over the answers that the contracts of begin and tell give (Calls.antt), and proved in Whole.antt. Definitions only.
+-- A whole run of a search: begun by its call, and told answer after answer. That it is the search of SPEC 9 is stated here (SPEC 9.18), over the answers that the contracts of begin and tell give (Calls.antt), and proved in Whole.antt. Definitions only.
 use Prim.Native.Nat.{ℕ}
 use mathlib.Core.Path.{_≡_}
 use mathlib.Core.Bool.{Bool, cond, not, _&&_}
@@ -46,7 +46,7 @@ askedAfter l d levels a (t ∷ ts) = ifDone (answerTo l d levels a t) (askOf (an
 abbrev pub asksOf : Limits → InputData → List ℕ → SearchAnswer → List Told → List Ask
 asksOf l d levels a ts = askOf a ++ askedAfter l d levels a ts
 
--- ---- what document 01 says
+-- ---- what the search of SPEC 9 does
 
 -- an answer counts where its plan, if it has one, passes 2 and 13
 abbrev pub counts : Limits → InputData → List ℕ → Told → Bool

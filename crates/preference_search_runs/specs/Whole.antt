@@ -1,4 +1,4 @@
--- A run is the search (Run.antt): steps driven by answers make document 01's asks, in order, and its result. Assumes nothing.
+-- A run is the search (Run.antt): steps driven by answers make the asks of SPEC 9, in order, and its result. Assumes nothing.
 use Prim.Native.Nat.{ℕ, suc, _+_, _-_, _<_, _≤_}
 use mathlib.Core.Path.{_≡_, refl, sym, ap, ap₂, _∙_}
 use mathlib.Core.Bool.{Bool, true, false, cond, not, _&&_, _||_}

@@ -1,4 +1,4 @@
-// The sample day of document 01: each row is computed by the library's calls, on lent bytes. What it
+// The sample day of SPEC 13: each row is computed by the library's calls, on lent bytes. What it
 // prints is compared with the file stdout.
 use layouts::day_of;
 use layouts::schedule_of;

@@ -20,7 +20,7 @@ fn preferences() -> [u32; 6] {
     [0, 1, 0, 0, 2, 1]
 }
 
-// Document 01 gives no costs: these are cubes.
+// The costs are cubes (SPEC 13.1).
 fn costs() -> [i64; 3] {
     [1, 8, 27]
 }

@@ -1,4 +1,4 @@
--- Document 01's sample day, and demand 3 applied to a run.
+-- The sample day of SPEC 13, and demand 3 applied to a run.
 pub mod SampleDay
 pub mod Rows
 pub mod RowsHold

@@ -1,4 +1,4 @@
--- The rows of document 01's sample day that are marked P, as one list over what the calls give and leave, acceptance included. Definitions only.
+-- The rows of the sample day that SPEC 13 marks P, as one list over what the calls give and leave, acceptance included. Definitions only.
 use Prim.Native.Nat.{ℕ}
 use mathlib.Core.Path.{_≡_}
 use mathlib.Core.Bool.{true, false}

@@ -1,4 +1,4 @@
--- Document 01's sample day, and what the calls give and leave on it, by the promises that their contracts cite. Definitions only.
+-- The sample day (SPEC 13.1), and what the calls give and leave on it, by the promises that their contracts cite. Definitions only.
 use Prim.Native.Nat.{ℕ}
 use mathlib.Core.Bool.{false, cond}
 use mathlib.Core.List.{List, [], _∷_}
@@ -71,7 +71,7 @@ atFirst = record { entries = 1 ∷ 1 ∷ 2 ∷ replicate 29 0 }
 abbrev pub moved : Scheduling
 moved = record { entries = 2 ∷ 1 ∷ 2 ∷ replicate 29 0 }
 
--- preferences 0 1 0 and 0 2 1, powers 0 1 8. Document 01 gives no costs: these are cubes.
+-- preferences 0 1 0 and 0 2 1, powers 0 1 8. The costs are cubes.
 abbrev pub preferences : List ℕ
 preferences = 0 ∷ 1 ∷ 0 ∷ 0 ∷ 2 ∷ 1 ∷ []
 

@@ -1,1 +1,1 @@
-// Definitions and theorems only: document 01's sample day, over what the calls give and leave.
+// Definitions and theorems only: the sample day (SPEC 13), over what the calls give and leave.

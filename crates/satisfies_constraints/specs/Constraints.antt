@@ -1,4 +1,4 @@
--- When a schedule and a plan meet the constraints of a day, from scoring.rs and document 01, "Verdict and score". Definitions only.
+-- When a schedule and a plan meet the constraints of a day, from scoring.rs: SPEC 4.4 to 4.7, 4.11. Definitions only.
 use Prim.Native.Nat.{ℕ, _*_}
 use mathlib.Core.Bool.{Bool, false, not, _&&_, _||_}
 use mathlib.Core.List.{List}

@@ -1,4 +1,4 @@
--- A state lent as bytes, and the AssignmentScheduleState that they stand for. Definitions only.
+-- A state lent as bytes, and the AssignmentScheduleState that they stand for: SPEC 2.8. Definitions only.
 use Prim.Native.Nat.{ℕ, _+_, _*_}
 use mathlib.Core.Path.{_≡_}
 use mathlib.Core.Bool.{Bool}

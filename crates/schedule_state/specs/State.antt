@@ -1,4 +1,4 @@
--- The state of a schedule, and check 12. Definitions only.
+-- The state of a schedule, and check 12: SPEC 3.12, 5.1 to 5.3, 5.12 to 5.14. Definitions only.
 use Prim.Native.Nat.{ℕ, _/_, _%_}
 use mathlib.Core.Bool.{Bool, false, not, _&&_, _||_}
 use mathlib.Core.List.{List}
@@ -15,7 +15,7 @@ use Rattle.slot_lists.specs.Sums.{weighed}
 use Rattle.blocks.specs.Blocks.{blockedBy, cell}
 use Rattle.schedule_state.specs.declared.AssignmentScheduleState.{AssignmentScheduleState}
 
--- document 01's covered: the sum of min over the choices that the schedule puts into slot s
+-- covered: the sum of min over the choices that the schedule puts into slot s
 abbrev pub coveredAt : InputData → List ℕ → ℕ → ℕ
 coveredAt d sch s = weighed (minAt d) (entryAt sch) (d .choices) s
 

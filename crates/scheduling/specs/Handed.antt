@@ -1,4 +1,4 @@
--- A schedule that a call is lent, beside its day. Definitions only.
+-- A schedule that a call is lent, beside its day: SPEC 2.7, 2.12, 3.11. Definitions only.
 use Prim.Native.Nat.{ℕ}
 use mathlib.Core.Bool.{Bool}
 use mathlib.Core.List.{List}

@@ -1,4 +1,4 @@
--- A schedule by its entries: 0 is none, s + 1 is slot s. Definitions only.
+-- A schedule by its entries: 0 is none, s + 1 is slot s. SPEC 1.4, 2.7, 2.12, 3.11. Definitions only.
 use Prim.Native.Nat.{ℕ, zero, suc, _-_}
 use mathlib.Core.Bool.{Bool}
 use mathlib.Core.List.{List}

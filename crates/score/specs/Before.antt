@@ -1,4 +1,4 @@
--- The order of finite scores by plain comparisons, as the code tests it, and that it is the order of document 01. Assumes nothing.
+-- The order of finite scores by plain comparisons, as the code tests it, and that it is the order of SPEC 11.8. Assumes nothing.
 use Prim.Native.Nat.{ℕ, zero, suc}
 use mathlib.Core.Path.{_≡_, refl, sym, ap, _∙_}
 use mathlib.Core.Bool.{Bool, true, false, cond, not, _&&_, _||_, and-false}

@@ -1,4 +1,4 @@
--- The best of a list of scores, from document 01, "Added by us". Definitions only.
+-- The best of a list of scores: SPEC 11.10. Definitions only.
 use Prim.Native.Nat.{ℕ, zero, suc}
 use mathlib.Core.Bool.{cond}
 use mathlib.Core.List.{List}

@@ -1,4 +1,4 @@
--- The order of 32-bit patterns by sign and magnitude, which is IEEE 754's totalOrder of what they stand for. Definitions only.
+-- The order of 32-bit patterns by sign and magnitude, which is IEEE 754's totalOrder of what they stand for: SPEC 11.7. Definitions only.
 use Prim.Native.Nat.{ℕ, _/_, _%_}
 use mathlib.Core.Bool.{Bool, true, false}
 use lib.Dec.{eqb, leb}

@@ -1,4 +1,4 @@
--- The best of scores that are listed as floats, from document 01. Definitions only.
+-- The best of scores that are listed as floats: SPEC 3.1, 3.2, 11.10. Definitions only.
 use Prim.Native.Nat.{ℕ, _+_, _*_, _-_}
 use mathlib.Core.Bool.{cond, not}
 use mathlib.Core.List.{List}

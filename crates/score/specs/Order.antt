@@ -1,4 +1,4 @@
--- The order of scores, from document 01, "Verdict and score". Definitions only.
+-- The order of scores: SPEC 11.2, 11.6, 11.8, 11.9. Definitions only.
 use mathlib.Core.Bool.{Bool, true, false, _&&_, _||_}
 use lib.IntN.{ℤ, pos, negsuc}
 use lib.Ieee.{inf, isNan}

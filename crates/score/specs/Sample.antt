@@ -1,4 +1,4 @@
--- The rows of document 01's sample day that speak of scores alone, by computation. Assumes nothing.
+-- The rows of the sample day that speak of scores alone (SPEC 13.12, 13.15), by computation. Assumes nothing.
 use mathlib.Core.Path.{_≡_, refl}
 use mathlib.Core.Bool.{true, false}
 use lib.IntN.{pos}

@@ -1,5 +1,5 @@
--- IEEE 754-2019, clause 5.10, totalOrder. Definitions only.
--- A NaN is one datum here: the quiet one of positive sign, 7FC00000, that document 01 names.
+-- IEEE 754-2019, clause 5.10, totalOrder: SPEC 11.7. Definitions only.
+-- A NaN is one datum here: the quiet one of positive sign, 7FC00000 (SPEC 2.16).
 use mathlib.Core.Bool.{Bool, true, false, cond, not, _&&_}
 use Prim.Native.Nat.{zero, suc}
 use lib.Ieee.{Float, nan, inf, fin, lt, isNan}

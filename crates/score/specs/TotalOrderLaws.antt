@@ -119,7 +119,7 @@ float-order (fin s m e) (fin t n d) F G = finite-order s m e t n d F G
 pub order-of-bits : (x y : Float) → T (fits binary32 x) → T (fits binary32 y) → totalOrder x y ≡ bitsBefore (toBits binary32 x) (toBits binary32 y)
 order-of-bits x y F G = float-order x y F G ∙ sym (rw (bits-of x, bits-of y) (pattern-order (signOf x) (restOf x) (signOf y) (restOf y) (rest-lt x F) (rest-lt y G)))
 
--- a pattern of 32 bits that is no NaN's, save the one that document 01 names
+-- a pattern of 32 bits that is no NaN's, save the one that SPEC 2.16 names
 pub record Pattern (b : ℕ) : Type 0 where
   pub wide : b < 4294967296
   pub one-nan : nanBits binary32 b ≡ true → b ≡ 0x7fc0_0000

@@ -1,4 +1,4 @@
--- The preferences that a plan uses, and the minor of its score, from document 01, "Verdict and score". Definitions only.
+-- The preferences that a plan uses, and the minor of its score: SPEC 11.3 to 11.5. Definitions only.
 use Prim.Native.Nat.{ℕ, _+_, _*_, max}
 use mathlib.Core.Bool.{Bool, false, cond}
 use mathlib.Core.List.{List}

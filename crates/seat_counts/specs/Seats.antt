@@ -1,4 +1,4 @@
--- The seats of a plan, from Scoring::is_feasible: no chooser in a slot twice, every scheduled choice filled. Definitions only.
+-- The seats of a plan, from Scoring::is_feasible: no chooser in a slot twice, every scheduled choice filled. SPEC 10.3, 10.4. Definitions only.
 use Prim.Native.Nat.{ℕ}
 use mathlib.Core.Bool.{Bool, not, _&&_, _||_}
 use mathlib.Core.List.{List}

@@ -1,4 +1,4 @@
--- The negation's answer in numbers. Definitions only.
+-- The negation's answer in numbers: SPEC 2.14, 4.8. Definitions only.
 use Prim.Native.Nat.{ℕ}
 use mathlib.Core.Bool.{cond}
 use lib.IntN.{ℤ}

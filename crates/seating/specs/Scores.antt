@@ -1,4 +1,4 @@
--- Scores in numbers. Definitions only.
+-- Scores in numbers: SPEC 2.16, 11.10. Definitions only.
 use Prim.Native.Nat.{ℕ}
 use lib.Ieee.{Float, binary32, toBits}
 use Rattle.score.specs.declared.Score.{Score}

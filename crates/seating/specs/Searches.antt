@@ -1,4 +1,4 @@
--- The result of an ask in numbers. Definitions only.
+-- The result of an ask in numbers: SPEC 2.15. Definitions only.
 use Prim.Native.Nat.{ℕ}
 use mathlib.Core.Bool.{cond}
 use lib.Dec.{eqb}

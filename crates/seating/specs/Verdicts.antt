@@ -1,4 +1,4 @@
--- Solutions and scores of the verdict in numbers. Definitions only.
+-- Solutions and scores of the verdict in numbers: SPEC 2.15, 2.16. Definitions only.
 use Prim.Native.Nat.{ℕ}
 use mathlib.Core.Bool.{cond}
 use mathlib.Core.List.{List}

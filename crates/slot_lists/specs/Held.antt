@@ -1,4 +1,4 @@
--- Check 12's first part: the slot lists hold exactly the choices of a schedule, once each. Definitions only.
+-- Check 12's first part: the slot lists hold exactly the choices of a schedule, once each. SPEC 5.12. Definitions only.
 use Prim.Native.Nat.{ℕ, _-_}
 use mathlib.Core.Bool.{Bool, not}
 use mathlib.Core.List.{List}

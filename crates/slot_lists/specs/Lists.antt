@@ -1,4 +1,4 @@
--- A slot's list in its part of the buffer, which begins at stride × slot. Definitions only.
+-- A slot's list in its part of the buffer, which begins at stride × slot: SPEC 5.4, 5.7. Definitions only.
 use Prim.Native.Nat.{ℕ, _+_, _-_, _*_}
 use mathlib.Core.Bool.{Bool, cond}
 use mathlib.Core.List.{List}
@@ -17,6 +17,6 @@ isListed stride l s k j = eqb (listed stride l s j) k
 abbrev pub placeOf : ℕ → ℕ → ℕ → ℕ → List ℕ → ℕ
 placeOf stride s len k l = firstTo len (isListed stride l s k)
 
--- the same in the whole buffer, of slot s
+-- the buffer once choice k has left the list of slot s, of `len` entries: the last one moves into its place
 unfoldable pub leftBy : ℕ → ℕ → ℕ → ℕ → List ℕ → List ℕ
 leftBy stride s len k l = cond (ltb (placeOf stride s len k l) len) (set l (stride * s + placeOf stride s len k l) (listed stride l s (len - 1))) l

@@ -1,4 +1,4 @@
--- Sums per slot: of 1 they are the lengths of the lists, of the mins they are document 01's covered counts. Definitions only.
+-- Sums per slot: of 1 they are the lengths of the lists, of the mins they are the covered counts. SPEC 5.2, 5.4. Definitions only.
 use Prim.Native.Nat.{ℕ, suc, _-_}
 use mathlib.Core.Bool.{Bool}
 use lib.Dec.{eqb}

@@ -1,4 +1,4 @@
--- The walk from one schedule to the next, from document 01, "State carried from schedule to schedule". A schedule is a function from choices to entries: 0 is none, s + 1 is slot s. Definitions only.
+-- The walk from one schedule to the next: SPEC 5.5 to 5.9. A schedule is a function from choices to entries: 0 is none, s + 1 is slot s. Definitions only.
 use Prim.Native.Nat.{ℕ, _+_, _-_, _*_}
 use mathlib.Core.Bool.{cond}
 use mathlib.Core.List.{List}

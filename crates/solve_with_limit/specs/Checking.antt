@@ -116,7 +116,7 @@ module _ {l : Limits} {x : ModelInput} (g : Good l x) where
   unfolding networkOf
   max-length = maps-length _ _ (seatsOf l x) (choicesOf x)
 
-  -- what the groups and the blocked list use: document 01's lengths are enough
+  -- what the groups and the blocked list use: the named lengths are enough (SPEC 6.14)
   few-names : Few (namesOf l x) 4096 2048
   unfolding namesOf
   few-names = names-few (edgeOf (seatsOf l x)) (sizesOf l (x .day)) (entriesOf x) (countOf x) (listOf l x) (x .day .assignment) (x .day .groups) (x .day .lengths) (x .day .members)

@@ -42,7 +42,7 @@ pub fn compare(left: Pair, right: Pair) -> i32 {
 }
 
 /// The first of the list that no later one is less than, walking from the front
-/// with `Score::cmp`. The Rust has no such function: this is document 01's rule.
+/// with `Score::cmp`. The Rust has no such function: this is SPEC 11.10.
 pub fn best(scores: &[Pair]) -> BestAnswer {
     let is_less = |place: usize, best: usize| compare(scores[place], scores[best]) < 0;
     let keep = |best, place| if is_less(place, best) { place } else { best };

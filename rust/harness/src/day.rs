@@ -100,7 +100,7 @@ impl Day {
     }
 }
 
-/// The sample day of document 01. Its costs are the cubes of 1 to 3.
+/// The sample day (SPEC 13.1). Its costs are the cubes of 1 to 3.
 pub fn sample_day() -> Day {
     let mut day = Day {
         mins: vec![1, 0, 2],

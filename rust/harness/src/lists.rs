@@ -1,4 +1,4 @@
-//! A small model of slot lists in a lent buffer, written from document 01, for
+//! A small model of slot lists in a lent buffer, written from SPEC 5, for
 //! every byte of it: those that no list uses any more included.
 use crate::day::{CHOICES, SLOTS};
 

@@ -1,5 +1,5 @@
 //! Scores for tests: special values, random ones, and the scores of plans by a
-//! second reading of document 01.
+//! second reading of SPEC 11.
 use crate::answers::Pair;
 use crate::day::Day;
 use crate::random::Random;
@@ -76,7 +76,7 @@ pub fn score_near(random: &mut Random, (major, minor): Pair) -> Pair {
     }
 }
 
-/// The score of a feasible plan, by document 01 and the lent powers.
+/// The score of a feasible plan, by SPEC 11 and the lent powers.
 pub fn score_of(day: &Day, plan: &Plan) -> Pair {
     let mut counts = vec![0_u32; day.powers.len()];
     for (chooser, row) in plan.iter().enumerate() {

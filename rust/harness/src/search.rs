@@ -1,4 +1,4 @@
-//! A second reading of document 01's preference search, in plain data.
+//! A second reading of the preference search (SPEC 9), in plain data.
 use crate::boundary::{entries, kept, seats, word};
 use crate::day::{CHOICES, Day};
 use crate::plan::{PLAN, Plan, random_plan};

@@ -77,7 +77,7 @@ impl fmt::Debug for State {
 }
 
 /// Whether the Rust blocks a chooser's edge to a choice in some slot, at
-/// c × 32 + k. On a day without slots it has no pairs at all, and document 01 is
+/// c × 32 + k. On a day without slots it has no pairs at all, and SPEC 5.3 is
 /// read instead.
 pub fn blocks_of(day: &Day, state: &oracle::State) -> [bool; CHOOSERS * CHOICES] {
     let mut blocks = [false; CHOOSERS * CHOICES];

@@ -1,5 +1,5 @@
-//! A second reading of document 01's checks, over plain data: the first number
-//! that applies. It was written from the paper and shares nothing with the
+//! A second reading of the checks of SPEC 3, over plain data: the first number
+//! that applies. It was written from the rules and shares nothing with the
 //! port but the entries of a schedule, since the Rust refuses nothing that could
 //! be compared.
 pub mod bytes;

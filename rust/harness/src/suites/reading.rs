@@ -1,4 +1,4 @@
-//! The second reading of document 01's checks: each kind of damage gets the
+//! The second reading of the checks (SPEC 3): each kind of damage gets the
 //! number that it was made for, and of two faults the first one decides.
 use crate::bridge;
 use crate::damage::{self, Damage, Input, values};

@@ -76,7 +76,7 @@ fn ties_are_grouped(scene: &Scene) -> bool {
     })
 }
 
-/// Verdict and score, beside document 01's definition of the score.
+/// Verdict and score, beside SPEC 11's definition of the score.
 fn verdict(features: &mut Features, scene: &Scene, plan: &Plan) -> Outcome {
     let (day, problem, slots) = (scene.day, scene.problem, scene.slots());
     let handed = Handed { day: Some(day), plan: Some(plan), ..Handed::default() };

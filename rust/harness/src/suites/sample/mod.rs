@@ -1,4 +1,4 @@
-//! The sample day of document 01: what the paper says of it, and of scores,
+//! The sample day: what SPEC 13 says of it, and of scores,
 //! holds of the Rust and, as far as it runs, of the port.
 mod models;
 mod verdicts;

@@ -13,7 +13,7 @@ use crate::suites::model::trial::Trial;
 use oracle::{Edge, Plan, Problem, Record};
 use std::collections::BTreeSet;
 
-/// The values that the paper gives at limit 1.
+/// The values that SPEC 13.5 gives at limit 1.
 const VALUES: [i32; 8] = [0, 1, 1, 1, 1, 0, 1, 0];
 
 pub fn run(run: &mut Run) {
@@ -31,7 +31,7 @@ pub fn run(run: &mut Run) {
     plans_to_be_had(run);
 }
 
-/// The paper's model at limit 1. Its costs are those of preferences 0 and 1.
+/// The model of SPEC 13.4 at limit 1. Its costs are those of preferences 0 and 1.
 fn model_at_1() -> Record {
     let ends = [(0, 4), (0, 5), (1, 6), (2, 4), (3, 6), (4, 7), (5, 7), (6, 8)];
     let maxs = [1, 1, 1, 1, 1, 0, 2, 0];
@@ -59,7 +59,7 @@ fn one_model(run: &mut Run, day: &Day, model: Record) {
     run.case(|random| scene(random, day, &problem)?.calls(random).models(1, &model));
 }
 
-/// The paper's values at limit 1 and two changes of the one of edge 6.
+/// The values of SPEC 13.5 at limit 1 and two changes of the one of edge 6.
 fn values(run: &mut Run) {
     let (day, model) = (sample_day(), model_at_1());
     let problem = bridge::problem(&day);
@@ -91,7 +91,7 @@ pub(super) fn rows() -> Plan {
     vec![vec![1, 2], vec![0, 2]]
 }
 
-/// All values within the bounds tried: limit 0 has no plan, limit 1 the paper's,
+/// All values within the bounds tried: limit 0 has no plan, limit 1 that of SPEC,
 /// and limit 2 one more. Rows 2 1 and 2 0 are not among them.
 fn plans_to_be_had(run: &mut Run) {
     let day = sample_day();
