@@ -1,4 +1,4 @@
--- A whole run of a search: begun by its call, and told answer after answer. That it is the search of SPEC 9 is stated here (SPEC 9.18), over the answers that the contracts of begin and tell give (Calls.antt), and proved in Whole.antt. Definitions only.
+-- A whole run of a search: begun by its call, and told answer after answer. That it is the search of SPEC 9 is stated here (SPEC 9.18), over the answers that the contracts of begin and tell give (assignment_solver's Calls.antt), and proved in Whole.antt. Definitions only.
 use Prim.Native.Nat.{ℕ}
 use mathlib.Core.Path.{_≡_}
 use mathlib.Core.Bool.{Bool, cond, not, _&&_}
