@@ -1,4 +1,4 @@
--- The number of a call that is handed a plan, and what the calls about a chooser give: SPEC 3.24, 8.2, 8.6. Definitions only.
+-- The number of a call that is handed a plan, and what the calls about a chooser give: SPEC 3.2, 3.24, 8.2, 8.6. Definitions only.
 use Prim.Native.Nat.{ℕ, _*_}
 use mathlib.Core.Bool.{Bool, false, cond, not, _||_}
 use mathlib.Core.List.{List}

@@ -1,4 +1,4 @@
--- Which choosers' edges a schedule blocks: SPEC 5.3. Definitions only.
+-- Which choosers' edges a schedule blocks: SPEC 2.8, 5.3. Definitions only.
 use Prim.Native.Nat.{ℕ, _+_, _*_}
 use mathlib.Core.Bool.{Bool, not, _&&_, _||_}
 use mathlib.Core.List.{List}

@@ -1,4 +1,4 @@
--- A day lent as bytes, and the InputData that they stand for: SPEC 2.4 to 2.6, 3.20. All numbers are 32 bits, the least byte first. Definitions only.
+-- A day lent as bytes, and the InputData that they stand for: SPEC 2.4 to 2.6, 3.2, 3.20. All numbers are 32 bits, the least byte first. Definitions only.
 use Prim.Native.Nat.{ℕ, _+_, _*_, _-_}
 use mathlib.Core.Path.{_≡_}
 use mathlib.Core.Bool.{Bool, cond, not, _||_}

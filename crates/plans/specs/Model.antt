@@ -1,5 +1,5 @@
 -- The flow model of a day, a schedule state and a preference limit, the numbers of the calls that build it, and the plan that
--- values decode to: SPEC 3.24, 6.1, 7.6. Definitions only.
+-- values decode to: SPEC 3.2, 3.24, 6.1, 7.6. Definitions only.
 use Prim.Native.Nat.{ℕ}
 use mathlib.Core.Bool.{Bool, false, cond, not, _||_}
 use mathlib.Core.List.{List}

@@ -1,4 +1,4 @@
--- A search that is handed back after each ask: begun, and told an answer. SPEC 9.1, 9.4, 9.11 to 9.17. Definitions only.
+-- A search that is handed back after each ask: begun, and told an answer. SPEC 3.21, 3.23, 9.1, 9.2, 9.4, 9.9, 9.11 to 9.17. Definitions only.
 use Prim.Native.Nat.{ℕ, _+_, _-_}
 use mathlib.Core.Bool.{Bool, true, false, cond, not, _&&_, _||_}
 use mathlib.Core.List.{List}

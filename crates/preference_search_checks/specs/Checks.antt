@@ -1,4 +1,4 @@
--- The numbers of begin and tell: what is tested of a search, of what it remembers and of what it is told. SPEC 3.18, 3.24, 3.25, 9.10. Definitions only.
+-- The numbers of begin and tell: what is tested of a search, of what it remembers and of what it is told. SPEC 3.2, 3.18, 3.24, 3.25, 9.10. Definitions only.
 use Prim.Native.Nat.{ℕ}
 use mathlib.Core.Bool.{Bool, false, not, _&&_, _||_}
 use mathlib.Core.List.{List}

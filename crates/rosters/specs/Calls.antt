@@ -1,4 +1,4 @@
--- What the roster calls give and leave: SPEC 8.3 to 8.5. Definitions only.
+-- What the roster calls give and leave: SPEC 3.2, 3.21, 8.3 to 8.5. Definitions only.
 use Prim.Native.Nat.{ℕ}
 use mathlib.Core.Path.{_≡_}
 use mathlib.Core.Bool.{Bool, false, cond}

@@ -1,4 +1,4 @@
--- What the calls build, update and slot list give and leave: SPEC 3.21, 3.24, 5.4 to 5.11, 5.15. Definitions only.
+-- What the calls build, update and slot list give and leave: SPEC 3.2, 3.21, 3.24, 5.4 to 5.11, 5.15. Definitions only.
 use Prim.Native.Nat.{ℕ, _+_, _*_}
 use mathlib.Core.Path.{_≡_}
 use mathlib.Core.Bool.{Bool, false, cond, not, _&&_, _||_}

@@ -1,4 +1,4 @@
--- The state of a schedule, and check 12: SPEC 3.12, 5.1 to 5.3, 5.12 to 5.14. Definitions only.
+-- The state of a schedule, and check 12: SPEC 3.12, 3.23, 5.1 to 5.3, 5.12 to 5.14. Definitions only.
 use Prim.Native.Nat.{ℕ, _/_, _%_}
 use mathlib.Core.Bool.{Bool, false, not, _&&_, _||_}
 use mathlib.Core.List.{List}

@@ -1,4 +1,4 @@
--- What the verdict's calls and evaluate give: SPEC 3.21, 3.24, 10.5, 11.1, 11.2. Definitions only.
+-- What the verdict's calls and evaluate give: SPEC 3.2, 3.21, 3.24, 10.5, 11.1, 11.2. Definitions only.
 use Prim.Native.Nat.{ℕ}
 use mathlib.Core.Bool.{Bool, true, false, cond, not, _&&_, _||_}
 use mathlib.Core.List.{List}
