@@ -16,6 +16,13 @@
  * call hands back has 0 or 1 there. A day of another length is refused by 2 at
  * once. Another length of the others is refused by 2 like that of a table:
  * after 1, and before the rest.
+ *
+ * What is said here of each entry is proved. The proof rests on the Rattle kit's
+ * logic and compiler, on x86-64 with binary32 floats rounded to nearest, on the C
+ * library's memcpy and memset, and on 32 KB of stack. It rests on the caller for
+ * what no entry can test: each lent slice is there, is aligned, and is disjoint
+ * from what the call writes. The structs are held to the layouts by the assertions
+ * below and by tests.
  */
 #ifndef CENDRAVOKA_H
 #define CENDRAVOKA_H

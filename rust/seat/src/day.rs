@@ -134,7 +134,8 @@ impl Day {
         for row in &self.rows {
             is_as_long(row, &row.value, choices, "preferences", "choices")?;
         }
-        if self.rows.len() < choosers {
+        // Without choices a row would be empty.
+        if self.rows.len() < choosers && choices > 0 {
             let missing = self.rows.len();
             let reason = format!("of {choosers} choosers, chooser {missing} has no preferences");
             return Err(self.choosers.fault(reason));

@@ -2,6 +2,9 @@
 
 const README: &str = include_str!("../../../README.md");
 
+/// The head of the table of refusals; README.md has other tables with numbers.
+const HEAD: &str = "| number | what is wrong | what to do |\n";
+
 /// A call that the library refused.
 #[derive(Debug, Clone)]
 pub struct Refusal {
@@ -44,7 +47,9 @@ impl Refusal {
 /// What the number means, and what to do about it.
 fn row(number: u32) -> Option<(&'static str, &'static str)> {
     let front = format!("| {number} | ");
-    let rest = README.lines().find_map(|line| line.strip_prefix(front.as_str()))?;
+    let (_, table) = README.split_once(HEAD)?;
+    let mut rows = table.lines().take_while(|line| line.starts_with('|'));
+    let rest = rows.find_map(|line| line.strip_prefix(front.as_str()))?;
     rest.strip_suffix(" |")?.split_once(" | ")
 }
 
