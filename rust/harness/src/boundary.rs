@@ -16,7 +16,7 @@ use std::array;
 /// The day, sound or damaged. Of what a struct has no room for the front is
 /// taken, since the count beside it tells that there is more.
 pub fn day(random: &mut Random, day: &Day) -> InputData {
-    let mut junk = Junk::new(random);
+    let mut junk = Junk::beside(random, day);
     let optional = day.optional.iter().copied().map(u8::from).collect::<Vec<_>>();
     InputData {
         choosers: word(day.choosers),
@@ -74,7 +74,7 @@ pub fn lent_day(random: &mut Random, plain: &Day) -> Guarded<u8> {
 }
 
 pub fn schedule(random: &mut Random, day: &Day, schedule: &Schedule) -> Scheduling {
-    let mut junk = Junk::new(random);
+    let mut junk = Junk::beside(random, day);
     let mut entries = entries(schedule);
     entries[day.choices.min(CHOICES)..].fill_with(|| junk.word() as u8);
     Scheduling { entries }
@@ -93,7 +93,7 @@ pub fn state(random: &mut Random, day: &Day, state: &State) -> ScheduleState {
 /// The state with anything past the day's sizes.
 pub fn with_rest(random: &mut Random, day: &Day, mut state: ScheduleState) -> ScheduleState {
     let (choosers, choices) = (day.choosers.min(CHOOSERS), day.choices.min(CHOICES));
-    let mut junk = Junk::new(random);
+    let mut junk = Junk::beside(random, day);
     state.schedule.entries[choices..].fill_with(|| junk.word() as u8);
     state.covered[day.slots.min(SLOTS)..].fill_with(|| junk.word());
     for (chooser, row) in state.blocks.chunks_exact_mut(CHOICES).enumerate() {
@@ -131,7 +131,7 @@ pub fn seats(day: &Day, plan: &[u8]) -> [u8; PLAN] {
 
 /// What a search remembers, with anything past the day's choices and seats.
 pub fn remembered(random: &mut Random, day: &Day, mut cached: Memory) -> Memory {
-    let mut junk = Junk::new(random);
+    let mut junk = Junk::beside(random, day);
     cached.schedule.entries[day.choices..].fill_with(|| junk.word() as u8);
     cached.plan[day.choosers * day.slots..].fill_with(|| junk.word() as u8);
     cached
@@ -153,6 +153,12 @@ impl<'a> Junk<'a> {
     fn new(random: &'a mut Random) -> Self {
         let mask = random.pick(&[0, 7, u64::MAX]);
         Self { random, mask }
+    }
+
+    /// Zeros beside a plain day.
+    fn beside(random: &'a mut Random, day: &Day) -> Self {
+        let junk = Self::new(random);
+        if day.is_plain { Self { mask: 0, ..junk } } else { junk }
     }
 
     fn word(&mut self) -> u32 {

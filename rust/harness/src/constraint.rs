@@ -94,7 +94,7 @@ fn random_extra(random: &mut Random, kind: u32) -> (u32, i32) {
     match kind {
         kind::CHOICES_HAVE_OFFSET => (extra::OFFSET, random.pick(&offsets)),
         kind::SLOT_HAS_LIMITED_SIZE => (extra::OPERATOR, random.pick(&OPERATORS)),
-        _ if random.chance(80) => (extra::NONE, 0),
+        _ if random.mostly(80) => (extra::NONE, 0),
         _ => (random.pick(&[0, 1, 2, 3, u32::MAX]), random.pick(&[0, 1, -3, 77, i32::MIN])),
     }
 }

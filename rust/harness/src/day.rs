@@ -44,6 +44,8 @@ pub struct Day {
     pub bound: u32,
     pub exponent: f64,
     pub greedy: bool,
+    /// Where nothing is read zeros are lent, and not anything.
+    pub is_plain: bool,
 }
 
 impl Day {
@@ -68,6 +70,7 @@ impl Day {
             bound: 0,
             exponent: 3.0,
             greedy: false,
+            is_plain: false,
         };
         day.fill_tables();
         day
@@ -150,16 +153,18 @@ pub fn random_day(random: &mut Random, size: Size) -> Day {
 }
 
 fn random_sizes(random: &mut Random, size: Size) -> (usize, usize, usize) {
-    match size {
-        Size::Small => (random.within(0, 6), random.within(0, 6), random.within(0, 3)),
-        Size::Middle => (random.within(4, 24), random.within(3, 16), random.within(1, 6)),
-        Size::Full if random.chance(50) => (CHOOSERS, CHOICES, SLOTS),
-        Size::Full => (
-            random.within(CHOOSERS - 4, CHOOSERS),
-            random.within(CHOICES - 4, CHOICES),
-            random.within(SLOTS - 2, SLOTS),
-        ),
-    }
+    let (choosers, choices, slots) = match size {
+        Size::Small => ((0, 6), (0, 6), (0, 3)),
+        Size::Middle => ((4, 24), (3, 16), (1, 6)),
+        Size::Full if random.chance(50) => return (CHOOSERS, CHOICES, SLOTS),
+        Size::Full => ((CHOOSERS - 4, CHOOSERS), (CHOICES - 4, CHOICES), (SLOTS - 2, SLOTS)),
+    };
+    // Each is drawn in one place, so that a failed case made smaller keeps it.
+    (
+        random.within(choosers.0, choosers.1),
+        random.within(choices.0, choices.1),
+        random.within(slots.0, slots.1),
+    )
 }
 
 /// Mins and maxs around what an even spread needs, or with room for everybody;
@@ -218,12 +223,13 @@ fn put_constraints(random: &mut Random, day: &mut Day) {
     }
 }
 
+#[track_caller]
 fn random_amount(random: &mut Random, few: usize, most: usize) -> usize {
-    match random.below(20) {
+    random.as_one(0, most, |random| match random.below(20) {
         0..7 => 0,
         7..19 => random.below(few),
         _ => most,
-    }
+    })
 }
 
 fn put_groups(random: &mut Random, day: &mut Day) {

@@ -3,7 +3,7 @@ use crate::run::Settings;
 use crate::suites::SUITES;
 
 const USAGE: &str = "differential [--seed N] [--count N] [--only NAME [--case N]] \
-                     [--write-records]";
+                     [--random-only] [--write-records]";
 
 /// What the gate runs with.
 const SEED: u64 = 1;
@@ -12,6 +12,8 @@ const SEED: u64 = 1;
 pub struct Options {
     pub settings: Settings,
     pub only: Option<String>,
+    /// Leave out cases that are the same with every seed.
+    pub random_only: bool,
     /// Write tests/records.bin and run nothing.
     pub write_records: bool,
 }
@@ -20,11 +22,18 @@ impl Options {
     /// Reads the words of a command line, or says what is wrong with them.
     pub fn read(mut words: impl Iterator<Item = String>) -> Result<Self, String> {
         let settings = Settings { seed: SEED, count: None, case: None };
-        let mut options = Self { settings, only: None, write_records: false };
+        let mut options = Self { settings, only: None, random_only: false, write_records: false };
         while let Some(word) = words.next() {
-            if word == "--write-records" {
-                options.write_records = true;
-                continue;
+            match word.as_str() {
+                "--random-only" => {
+                    options.random_only = true;
+                    continue;
+                }
+                "--write-records" => {
+                    options.write_records = true;
+                    continue;
+                }
+                _ => (),
             }
             let Some(value) = words.next() else {
                 return Err(format!("{word} stands without a value\n{USAGE}"));
@@ -46,7 +55,7 @@ impl Options {
 }
 
 fn suite_name(name: String) -> Result<String, String> {
-    let names = SUITES.iter().map(|(name, _)| *name).collect::<Vec<_>>();
+    let names = SUITES.iter().map(|suite| suite.name).collect::<Vec<_>>();
     if names.contains(&name.as_str()) {
         Ok(name)
     } else {

@@ -11,8 +11,8 @@ pub const PLAN: usize = CHOOSERS * SLOTS;
 pub type Plan = Vec<u8>;
 
 /// The plan that has these rows.
-pub fn of_rows(random: &mut Random, rows: &oracle::Plan) -> Plan {
-    with_rest(random, rows.iter().flatten().map(|&choice| choice as u8).collect())
+pub fn of_rows(random: &mut Random, day: &Day, rows: &oracle::Plan) -> Plan {
+    with_rest(random, day, rows.iter().flatten().map(|&choice| choice as u8).collect())
 }
 
 /// The rows of a plan, chooser by chooser.
@@ -40,7 +40,7 @@ pub fn random_plan(random: &mut Random, day: &Day, schedule: &Schedule) -> Optio
             plan.push(random.pick(from));
         }
     }
-    Some(with_rest(random, plan))
+    Some(with_rest(random, day, plan))
 }
 
 /// A plan of any choices, scheduled or not: of all of them, of few or of one
@@ -54,7 +54,7 @@ pub fn wild_plan(random: &mut Random, day: &Day) -> Option<Plan> {
     let few = random.pick(&[1, 2, 3, all.len()]);
     let from = (0..few).filter_map(|_| random.pick_some(&all)).collect::<Vec<_>>();
     let plan = (0..seats).map(|_| random.pick(&from)).collect();
-    Some(with_rest(random, plan))
+    Some(with_rest(random, day, plan))
 }
 
 /// A plan with a few seats changed, or with two seats of one chooser exchanged.
@@ -88,9 +88,7 @@ fn listed(day: &Day, schedule: &Schedule, slot: Option<usize>) -> Vec<u8> {
 }
 
 /// Fills the bytes past the last seat.
-fn with_rest(random: &mut Random, mut plan: Plan) -> Plan {
-    while plan.len() < PLAN {
-        plan.push(random.bits() as u8);
-    }
+fn with_rest(random: &mut Random, day: &Day, mut plan: Plan) -> Plan {
+    plan.resize_with(PLAN, || if day.is_plain { 0 } else { random.bits() as u8 });
     plan
 }

@@ -221,34 +221,55 @@ fn stretches<T: Element>(before: &[T], after: &[T]) -> Vec<(usize, usize)> {
     stretches
 }
 
-/// The notes that are kept, and how many there are of each sort.
-#[derive(Default)]
+/// Which notes are kept.
+#[derive(Debug, Clone, Copy, PartialEq, Eq)]
+pub enum Keep {
+    All,
+    /// Of each sort so many, and of light ones more.
+    OfEachSort,
+}
+
+/// A note is light where fewer of its bytes are not 0.
+const LIGHT: usize = 300;
+
+/// The notes that are kept, and how many there are of each sort, light ones and
+/// others.
 struct Notes {
+    keep: Keep,
     kept: Vec<Note>,
-    counts: BTreeMap<Sort, usize>,
+    counts: BTreeMap<(Sort, bool), usize>,
     /// The sorts of which the present case has left one.
-    in_case: BTreeSet<Sort>,
+    in_case: BTreeSet<(Sort, bool)>,
 }
 
 impl Notes {
     /// Keeps a note unless there are enough of its sort. No case has two of them,
     /// since those would be much alike.
     fn add(&mut self, note: Note) {
-        let (_, number, size, _, about) = note.sort;
-        let most = match (number, size) {
-            (0, Size::Usual) if about.is_some() => 2,
-            (0, Size::Usual) => 7,
-            (0, _) if about.is_some() => 0,
-            (0, Size::Full) => 2,
-            (0, Size::Empty) => 1,
-            (_, Size::Usual) => 2,
-            _ => 0,
-        };
-        let count = self.counts.entry(note.sort).or_default();
-        if *count < most && self.in_case.insert(note.sort) {
+        let is_light = note.bytes.iter().filter(|&&byte| byte != 0).count() < LIGHT;
+        let sort = (note.sort, is_light);
+        let count = self.counts.entry(sort).or_default();
+        let is_kept = *count < most(sort) && self.in_case.insert(sort);
+        if is_kept || self.keep == Keep::All {
             *count += 1;
             self.kept.push(note);
         }
+    }
+}
+
+/// How many of a sort are enough.
+fn most(((_, number, size, _, about), is_light): (Sort, bool)) -> usize {
+    match (number, size) {
+        (0, Size::Usual) if is_light && about.is_some() => 4,
+        (0, Size::Usual) if is_light => 14,
+        (_, Size::Usual | Size::Empty) if is_light => 3,
+        (0, Size::Usual) if about.is_some() => 2,
+        (0, Size::Usual) => 7,
+        (0, _) if about.is_some() => 0,
+        (0, Size::Full) => 2,
+        (0, Size::Empty) => 1,
+        (_, Size::Usual) => 2,
+        _ => 0,
     }
 }
 
@@ -274,9 +295,10 @@ pub fn start_case() {
     });
 }
 
-/// The notes that are left while this runs, of each sort as many as are kept.
-pub fn taken(run: impl FnOnce()) -> Vec<Note> {
-    NOTES.set(Some(Notes::default()));
+/// The notes that are left while this runs, as many as are kept.
+pub fn taken(keep: Keep, run: impl FnOnce()) -> Vec<Note> {
+    let (kept, counts, in_case) = (Vec::new(), BTreeMap::new(), BTreeSet::new());
+    NOTES.set(Some(Notes { keep, kept, counts, in_case }));
     run();
     NOTES.take().map_or(Vec::new(), |notes| notes.kept)
 }

@@ -1,11 +1,18 @@
 //! The run of one suite: its cases are numbered, each has random numbers of its
-//! own, and a failed one says how to run it again.
+//! own, and a failed one says how to run it again. One of a day is made smaller
+//! first, and printed as a day file.
+use crate::day_file::{self, DayFile};
+use crate::draws::Draw;
+pub use crate::failure::{Failure, Outcome, same, wanted};
 use crate::features::Features;
 use crate::panics::caught;
 use crate::random::Random;
 use crate::recording;
+use crate::shrink::{self, Smaller};
 use port::crash;
-use std::fmt::Debug;
+
+/// Failed cases of a suite that are made smaller, if they are of days.
+const MADE_SMALLER: u64 = 3;
 
 /// Failed cases of a suite that are printed; the rest are counted.
 const PRINTED: u64 = 20;
@@ -33,67 +40,89 @@ pub struct Settings {
     pub case: Option<u64>,
 }
 
-/// Why a case failed.
-#[derive(Debug)]
-pub struct Failure {
-    input: String,
-    answers: Vec<(&'static str, String)>,
-}
-
-pub type Outcome = Result<(), Failure>;
-
-/// The port and the Rust must give the same.
-pub fn same<T: PartialEq + Debug>(port: T, rust: T, input: impl FnOnce() -> String) -> Outcome {
-    answers_equal(("port", port), ("Rust", rust), input)
-}
-
-/// What was found must be what was wanted.
-pub fn wanted<T: PartialEq + Debug>(
-    found: T,
-    wanted: T,
-    input: impl FnOnce() -> String,
-) -> Outcome {
-    answers_equal(("found", found), ("wanted", wanted), input)
-}
-
-fn answers_equal<T: PartialEq + Debug>(
-    left: (&'static str, T),
-    right: (&'static str, T),
-    input: impl FnOnce() -> String,
-) -> Outcome {
-    if left.1 == right.1 {
-        return Ok(());
-    }
-    let answers = [left, right].map(|(who, answer)| (who, format!("{answer:?}")));
-    Err(Failure { input: input(), answers: answers.to_vec() })
-}
-
 pub struct Run<'a> {
     suite: &'static str,
     settings: &'a Settings,
     next: u64,
+    /// Cases that are the same with every seed are left out.
+    pub random_only: bool,
+    /// The cases that come are such ones.
+    is_fixed: bool,
     pub made: u64,
+    /// Those of the cases that are the same with every seed, or over all others.
+    pub fixed: u64,
     pub failed: u64,
 }
 
 impl<'a> Run<'a> {
     pub fn new(suite: &'static str, settings: &'a Settings) -> Self {
-        Self { suite, settings, next: 0, made: 0, failed: 0 }
+        Self {
+            suite,
+            settings,
+            next: 0,
+            random_only: false,
+            is_fixed: false,
+            made: 0,
+            fixed: 0,
+            failed: 0,
+        }
     }
 
     pub fn count(&self) -> u64 {
         self.settings.count.unwrap_or(DAYS)
     }
 
-    /// The next case; left out where another one alone was asked for.
-    pub fn case(&mut self, test: impl FnOnce(&mut Random) -> Outcome) {
+    /// Cases that are the same with every seed. They have their numbers where they
+    /// are left out too.
+    pub fn fixed(&mut self, cases: impl FnOnce(&mut Self)) {
+        self.is_fixed = true;
+        cases(self);
+        self.is_fixed = false;
+    }
+
+    /// The number of the next case; none where it is left out, since another one
+    /// alone was asked for, or only random ones.
+    fn next_case(&mut self) -> Option<u64> {
         let case = self.next;
         self.next += 1;
-        if self.settings.case.is_none_or(|only| only == case) {
-            recording::start_case();
-            crash::at((self.suite, self.settings.seed, case));
-            let mut random = Random::of_case(self.settings.seed, self.suite, case);
-            self.judge(Some(case), || test(&mut random));
+        let is_meant = self.settings.case.is_none_or(|only| only == case);
+        if !is_meant || self.is_fixed && self.random_only {
+            return None;
+        }
+        self.made += 1;
+        self.fixed += u64::from(self.is_fixed);
+        recording::start_case();
+        crash::at((self.suite, self.settings.seed, case));
+        Some(case)
+    }
+
+    fn random(&self, case: u64) -> Random {
+        Random::of_case(self.settings.seed, self.suite, case)
+    }
+
+    /// The next case.
+    pub fn case(&mut self, test: impl FnOnce(&mut Random) -> Outcome) {
+        if let Some(case) = self.next_case() {
+            let mut random = self.random(case);
+            let (outcome, file) = day_file::noted(|| judged(|| test(&mut random)));
+            if let Err(failure) = outcome {
+                self.fails(Some(case), |_| failure.told(text(file.as_ref())));
+            }
+        }
+    }
+
+    /// The next case, of a day: where it fails a smaller one is looked for.
+    pub fn case_of_day(&mut self, mut test: impl FnMut(&mut Random) -> Outcome) {
+        if let Some(case) = self.next_case()
+            && let Err(failure) = judged(|| test(&mut self.random(case)))
+        {
+            let random = self.random(case);
+            self.fails(Some(case), |is_made_smaller| {
+                if is_made_smaller {
+                    return made_smaller(&mut test, random, &failure);
+                }
+                failure.told(Err("it is made when the case is run again alone".to_owned()))
+            });
         }
     }
 
@@ -107,34 +136,33 @@ impl<'a> Run<'a> {
     ) {
         let count = self.settings.count.unwrap_or(days.usual);
         for _ in 0..count {
-            self.case(|random| one_day(random, features));
+            self.case_of_day(|random| one_day(random, features));
         }
         if count >= days.for_features {
             self.over_all(|| features.all_seen());
         }
     }
 
-    /// A case over all that ran before; left out where one alone was asked for.
+    /// A case over all that ran before; left out where one alone was asked for, or
+    /// only random ones: with any seed a rare feature may not show.
     pub fn over_all(&mut self, test: impl FnOnce() -> Outcome) {
-        if self.settings.case.is_none() {
-            self.judge(None, test);
+        if self.settings.case.is_some() || self.random_only {
+            return;
         }
-    }
-
-    fn judge(&mut self, case: Option<u64>, test: impl FnOnce() -> Outcome) {
         self.made += 1;
-        // A case that panics has not told its input; the message says where.
-        let panicked =
-            |message| Failure { input: String::new(), answers: vec![("panic", message)] };
-        if let Err(failure) = caught(test).unwrap_or_else(|message| Err(panicked(message))) {
-            self.failed += 1;
-            if self.failed <= PRINTED {
-                self.print(case, &failure);
-            }
+        self.fixed += 1;
+        if let Err(failure) = judged(test) {
+            self.fails(None, |_| failure.told(text(None)));
         }
     }
 
-    fn print(&self, case: Option<u64>, failure: &Failure) {
+    /// Counts and prints a failed case. What is to be said of it is told whether
+    /// the case is to be made smaller.
+    fn fails(&mut self, case: Option<u64>, say: impl FnOnce(bool) -> String) {
+        self.failed += 1;
+        if self.failed > PRINTED {
+            return;
+        }
         let Settings { seed, count, .. } = self.settings;
         let suite = self.suite;
         let name = case.map_or("over all cases".to_owned(), |case| format!("case {case}"));
@@ -144,15 +172,10 @@ impl<'a> Run<'a> {
             count.map(|count| format!(" --count {count}")),
         ];
         println!("FAILED {suite}, seed {seed}, {name}");
-        if !failure.input.is_empty() {
-            println!("  input: {}", failure.input);
-        }
-        for (who, answer) in &failure.answers {
-            println!("  {who}: {answer}");
-        }
+        println!("{}", say(self.failed <= MADE_SMALLER));
         println!(
             "  again: cargo run --release --offline --manifest-path rust/Cargo.toml \
-             --bin differential -- --only {suite} --seed {seed}{}",
+             --package harness --bin differential -- --only {suite} --seed {seed}{}",
             told.into_iter().flatten().collect::<String>()
         );
     }
@@ -163,4 +186,31 @@ impl<'a> Run<'a> {
             println!("FAILED {}: {} more cases", self.suite, self.failed - PRINTED);
         }
     }
+}
+
+/// The outcome of a case, or its panic as one.
+fn judged(test: impl FnOnce() -> Outcome) -> Outcome {
+    caught(test).unwrap_or_else(|message| Err(Failure::panicked(message)))
+}
+
+/// What there is to say of a smaller case that fails too.
+fn made_smaller(test: &mut shrink::Test, random: Random, failure: &Failure) -> String {
+    let Some(failed) = shrink::failed(test, random.noting()) else {
+        return failure.told(Err("the case does not fail when it is run again".to_owned()));
+    };
+    let before = drawn(&failed.draws);
+    let Smaller { failed, tries } = shrink::smallest(test, failed);
+    let after = drawn(&failed.draws);
+    let told = failed.failure.told(text(failed.file.as_ref()));
+    format!("  made smaller in {tries} runs: of {before} draws {after} are left\n{told}")
+}
+
+/// How many draws are not the simplest.
+fn drawn(draws: &[Draw]) -> usize {
+    draws.iter().filter(|draw| !draw.is_simplest()).count()
+}
+
+/// A day file, or why there is none.
+fn text(file: Option<&DayFile>) -> Result<String, String> {
+    file.map_or(Err("the case is of no day".to_owned()), DayFile::text)
 }

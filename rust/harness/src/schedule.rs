@@ -9,6 +9,13 @@ pub type Schedule = Vec<Option<usize>>;
 /// The most schedules in a chain.
 pub const CHAIN: usize = 40;
 
+/// The schedule with an entry for each of the choices that a day may have.
+pub fn whole(slots: &[Option<usize>]) -> Schedule {
+    let mut schedule = slots.to_vec();
+    schedule.resize(CHOICES, None);
+    schedule
+}
+
 pub fn random_schedule(random: &mut Random, day: &Day) -> Schedule {
     let mut schedule = match random.below(10) {
         0..6 => dealt(random, day),
@@ -38,7 +45,8 @@ pub fn changed_schedule(random: &mut Random, day: &Day, old: &Schedule) -> Sched
 
 /// A first schedule and changes of it, `CHAIN` at most, now and then a new one.
 pub fn random_chain(random: &mut Random, day: &Day) -> Vec<Schedule> {
-    let length = if random.chance(10) { CHAIN } else { random.within(1, 8) };
+    let length = random
+        .as_one(1, CHAIN, |random| if random.chance(10) { CHAIN } else { random.within(1, 8) });
     let mut chain = vec![random_schedule(random, day)];
     while chain.len() < length {
         let next = if random.chance(20) {

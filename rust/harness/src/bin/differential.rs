@@ -3,7 +3,7 @@
 
 use harness::options::Options;
 use harness::run::Run;
-use harness::suites::SUITES;
+use harness::suites::{Class, SUITES, Suite};
 use harness::{panics, records};
 use std::process::ExitCode;
 use std::time::Instant;
@@ -23,24 +23,70 @@ fn main() -> ExitCode {
         fs::write(records::PATH, records::bytes()).expect("the records can be written");
         return ExitCode::SUCCESS;
     }
-    let (made, failed) = run_all(&options);
+    let Total { made, failed, .. } = run_all(&options);
     println!("differential: {made} cases, {failed} failed");
     if made > 0 && failed == 0 { ExitCode::SUCCESS } else { ExitCode::FAILURE }
 }
 
-fn run_all(options: &Options) -> (u64, u64) {
-    let mut total = (0, 0);
-    for (name, suite) in SUITES {
-        if options.only.as_deref().is_some_and(|only| only != *name) {
-            continue;
+/// The cases that were made, all and by what they are, and those that failed.
+#[derive(Default)]
+struct Total {
+    made: u64,
+    failed: u64,
+    single_calls: u64,
+    days: u64,
+    wild: u64,
+    others: u64,
+}
+
+impl Total {
+    /// What is the same with every seed counts as a day or as wild nowhere.
+    fn add(&mut self, class: Class, run: &Run) {
+        self.made += run.made;
+        self.failed += run.failed;
+        let (of_class, fixed) = match class {
+            Class::SingleCalls | Class::Others => (run.made, 0),
+            Class::Days | Class::Wild => (run.made - run.fixed, run.fixed),
+        };
+        match class {
+            Class::SingleCalls => self.single_calls += of_class,
+            Class::Days => self.days += of_class,
+            Class::Wild => self.wild += of_class,
+            Class::Others => self.others += of_class,
         }
-        let start = Instant::now();
-        let mut run = Run::new(name, &options.settings);
-        suite(&mut run);
-        run.end();
-        let seconds = start.elapsed().as_secs_f64();
-        println!("{name}: {} cases, {} failed, {seconds:.1} s", run.made, run.failed);
-        total = (total.0 + run.made, total.1 + run.failed);
+        self.others += fixed;
     }
+
+    /// How the cases divide.
+    fn print(&self) {
+        let Self { single_calls, days, wild, others, .. } = self;
+        let is_single = |suite: &&Suite| suite.class == Class::SingleCalls;
+        let names = SUITES.iter().filter(is_single).map(|suite| suite.name).collect::<Vec<_>>();
+        let names = names.join(", ");
+        println!(
+            "differential: {single_calls} single calls ({names}), {days} days, {wild} wild, \
+             {others} others"
+        );
+    }
+}
+
+fn run_all(options: &Options) -> Total {
+    let mut total = Total::default();
+    for suite in SUITES.iter().filter(|suite| is_meant(options, suite)) {
+        let start = Instant::now();
+        let mut run = Run::new(suite.name, &options.settings);
+        run.random_only = options.random_only;
+        (suite.run)(&mut run);
+        run.end();
+        let (name, seconds) = (suite.name, start.elapsed().as_secs_f64());
+        println!("{name}: {} cases, {} failed, {seconds:.1} s", run.made, run.failed);
+        total.add(suite.class, &run);
+    }
+    total.print();
     total
+}
+
+fn is_meant(options: &Options, suite: &Suite) -> bool {
+    let is_only = options.only.as_deref().is_none_or(|only| only == suite.name);
+    is_only && (suite.is_random || !options.random_only)
 }

@@ -1,6 +1,7 @@
 //! Damage: changes that make sound input such that a call must refuse it by a
 //! known number, and changes that must make no difference.
 mod days;
+mod files;
 mod layouts;
 mod lent;
 mod plans;
@@ -31,6 +32,8 @@ pub struct Input {
     /// The state comes from a chain of schedules; this is the next one.
     pub schedule: Schedule,
     pub state: State,
+    /// The schedules that led to the state, where they are noted.
+    pub trail: Vec<Schedule>,
     pub plan: Plan,
     /// A search that asks, with what it remembers.
     pub search: Search,
@@ -48,6 +51,7 @@ impl Input {
             asked: Vec::new(),
             schedule: vec![None; CHOICES],
             state: State::none(),
+            trail: Vec::new(),
             plan: Vec::new(),
             search: Search::NONE,
             result: FEASIBLE,

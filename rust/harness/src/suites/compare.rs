@@ -7,12 +7,7 @@ use crate::scores::{random_score, score_near, special_scores};
 const PAIRS: u64 = 200;
 
 pub fn run(run: &mut Run) {
-    let special = special_scores();
-    for &left in &special {
-        for &right in &special {
-            run.case(|_| compare(left, right));
-        }
-    }
+    run.fixed(special_pairs);
     for _ in 0..PAIRS * run.count() {
         run.case(|random| {
             let left = random_score(random);
@@ -20,6 +15,15 @@ pub fn run(run: &mut Run) {
             let right = if near { score_near(random, left) } else { random_score(random) };
             compare(left, right)
         });
+    }
+}
+
+fn special_pairs(run: &mut Run) {
+    let special = special_scores();
+    for &left in &special {
+        for &right in &special {
+            run.case(|_| compare(left, right));
+        }
     }
 }
 

@@ -7,9 +7,11 @@ use crate::scores::{random_score, special_scores};
 const SCORES: u64 = 20;
 
 pub fn run(run: &mut Run) {
-    for score in special_scores() {
-        run.case(|_| is_finite(score));
-    }
+    run.fixed(|run| {
+        for score in special_scores() {
+            run.case(|_| is_finite(score));
+        }
+    });
     for _ in 0..SCORES * run.count() {
         run.case(|random| is_finite(random_score(random)));
     }

@@ -15,8 +15,8 @@ const PAIRS: usize = 12;
 pub fn run(run: &mut Run) {
     let mut features = Features::default();
     for _ in 0..run.count() {
-        run.case(|random| one_input(random, &mut features));
-        run.case(|random| one_model(random, &mut features));
+        run.case_of_day(|random| one_input(random, &mut features));
+        run.case_of_day(|random| one_model(random, &mut features));
     }
     if run.count() >= INPUTS_FOR_FEATURES {
         run.over_all(|| features.all_seen());

@@ -16,7 +16,7 @@ use crate::schedule::Schedule;
 pub use models::look as look_at_model;
 use oracle::{Problem, Solver};
 
-const DAYS: Days = Days { usual: 5_000, for_features: 2_000 };
+const DAYS: Days = Days { usual: 5_000, for_features: 5_000 };
 
 /// A day with the schedule that the originals were led to.
 struct Scene<'a> {

@@ -44,7 +44,7 @@ fn solved_plan(
     wanted(reading::values_number(&model, &values), 0, input)?;
     let plan = scene.solver.decode(limit, &values);
     is_sound(scene, &plan, limit)?;
-    Ok(Some(of_rows(random, &plan)))
+    Ok(Some(of_rows(random, day, &plan)))
 }
 
 /// A plan that can be had keeps to the limit and to its columns, and is

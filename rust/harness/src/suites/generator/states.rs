@@ -1,6 +1,7 @@
 //! States carried through a chain of schedules, beside states built afresh.
 use super::Scene;
 use crate::day::{Day, Size};
+use crate::day_file::{self, DayFile};
 use crate::features::Features;
 use crate::random::Random;
 use crate::reading::{self, Buffer, Handed};
@@ -21,6 +22,7 @@ pub fn walk_chain<'a>(
     let mut solver = problem.solver();
     for (place, schedule) in chain.iter().enumerate() {
         look(features, day, schedule);
+        day_file::note(|| DayFile::new("the Rust's state", day).trail(&chain[..=place]));
         let slots = &schedule[..day.choices];
         let carried = solver.prepare(slots);
         let fresh = problem.solver().prepare(slots);

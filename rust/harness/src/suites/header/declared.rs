@@ -40,10 +40,10 @@ fn prototypes() -> Vec<Prototype> {
     text().split(';').filter_map(prototype).collect()
 }
 
-/// The entries with their types.
+/// The entries with their parameters and, at the end, what they give.
 pub fn entries() -> BTreeMap<String, Types> {
     let types = |own: Prototype| {
-        let passed = own.parameters.iter().map(|parameter| c_type(parameter));
+        let passed = own.parameters.iter().map(|parameter| c_field(parameter));
         (own.name, passed.chain([own.result]).collect())
     };
     prototypes().into_iter().map(types).collect()

@@ -2,7 +2,7 @@
 use super::Types;
 use std::collections::BTreeMap;
 
-/// The entries with their types.
+/// The entries with their parameters and, at the end, what they give.
 pub fn entries() -> BTreeMap<String, Types> {
     let (_, block) = port::DECLARATIONS.split_once("extern \"C\" {").expect("a block of entries");
     let mut entries = BTreeMap::new();
@@ -13,8 +13,8 @@ pub fn entries() -> BTreeMap<String, Types> {
         let (name, rest) = declaration.split_once('(').expect("parameters");
         let without_result = (rest.trim_end_matches(')'), "void");
         let (parameters, result) = rest.rsplit_once(") -> ").unwrap_or(without_result);
-        let parameters = parameters.split(',').filter_map(|one| one.split_once(": "));
-        let mut types = parameters.map(|(_, kind)| kind.trim().to_owned()).collect::<Vec<_>>();
+        let parameters = parameters.split(',').map(str::trim).filter(|one| !one.is_empty());
+        let mut types = parameters.map(str::to_owned).collect::<Vec<_>>();
         types.push(result.trim().to_owned());
         entries.insert(name.to_owned(), types);
     }

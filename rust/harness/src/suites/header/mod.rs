@@ -1,6 +1,8 @@
-//! The header, the archive and the declarations of the port name the same
-//! entries, and the first and the last the same types, fields and places.
+//! The header, the archive, the sources of the entries and the declarations of
+//! the port name the same entries; all but the archive the same parameters, in
+//! order; the header and the port the same results, fields and places.
 mod declared;
+mod exported;
 mod linked;
 
 use crate::call::{Name, TAKEN};
@@ -10,8 +12,8 @@ use declared::{HEADER, PREFIX};
 use std::collections::{BTreeMap, BTreeSet};
 use std::process::Command;
 
-/// What is passed to an entry, in order, and at the end what it gives; or the
-/// fields of a struct.
+/// What is passed to an entry, in order, each as a name and a type, and at the end
+/// the type that it gives; or the fields of a struct.
 type Types = Vec<String>;
 
 pub fn run(run: &mut Run) {
@@ -26,6 +28,7 @@ pub fn run(run: &mut Run) {
 
 fn entries(run: &mut Run) {
     let (declared, linked) = (declared::entries(), linked::entries());
+    let exported = exported::entries();
     let names = declared.keys().cloned().collect::<BTreeSet<_>>();
     run.case(|_| {
         wanted(archive_entries(), names.clone(), || "entries that the archive defines".to_owned())
@@ -34,21 +37,33 @@ fn entries(run: &mut Run) {
         let linked = linked.keys().cloned().collect::<BTreeSet<_>>();
         wanted(linked, names.clone(), || "entries that the port declares".to_owned())
     });
+    run.case(|_| {
+        let exported = exported.keys().cloned().collect::<BTreeSet<_>>();
+        wanted(exported, names.clone(), || "entries that the sources export".to_owned())
+    });
     run.case(|_| wanted(taken(), declared::slices(), || "slices of calls in bytes".to_owned()));
     for (name, types) in declared {
-        run.case(|_| passes_no_struct(&name, &types));
+        let passed = &types[..types.len() - 1];
+        run.case(|_| passes_no_struct(&name, passed));
+        run.case(|_| {
+            let exported = exported.get(&name).cloned().unwrap_or_default();
+            wanted(&exported[..], passed, || format!("the parameters of {name} in the sources"))
+        });
         run.case(|_| {
             let linked = linked.get(&name).cloned().unwrap_or_default();
-            wanted(linked, types, || format!("the types of {name}"))
+            wanted(linked, types.clone(), || format!("the parameters and the result of {name}"))
         });
     }
 }
 
-/// A struct may only be what an entry gives, at the end.
-fn passes_no_struct(name: &str, types: &Types) -> Outcome {
+/// A struct may only be what an entry gives.
+fn passes_no_struct(name: &str, passed: &[String]) -> Outcome {
     let structs = linked::structs();
-    let passed = types[..types.len() - 1].iter().filter(|kind| structs.contains_key(*kind));
-    wanted(passed.collect(), Vec::new(), || format!("structs that are passed to {name}"))
+    let is_struct = |parameter: &&String| {
+        parameter.split_once(": ").is_some_and(|(_, kind)| structs.contains_key(kind))
+    };
+    let found = passed.iter().filter(is_struct).collect();
+    wanted(found, Vec::new(), || format!("structs that are passed to {name}"))
 }
 
 /// What the calls in bytes are of: every entry that is lent a slice.

@@ -2,6 +2,7 @@
 use super::lent::{Lengths, Lent, VALUES};
 use crate::answers;
 use crate::day::Day;
+use crate::day_file::{self, DayFile};
 use crate::random::Random;
 use crate::recording::{Entry, Note, note};
 use crate::run::{Failure, Outcome, wanted};
@@ -39,6 +40,10 @@ pub struct Calls<'a> {
     lists: Guarded<u8>,
     pub lengths: Lengths,
     pub lent: Lent,
+    /// The way to the state, where it is noted.
+    file: DayFile,
+    /// The edges of the model that is looked for.
+    edges: Option<usize>,
 }
 
 impl<'a> Calls<'a> {
@@ -58,7 +63,14 @@ impl<'a> Calls<'a> {
             lists: Guarded::holding(lists),
             lengths,
             lent: Lent::new(&lengths),
+            file: DayFile::default(),
+            edges: None,
         }
+    }
+
+    /// The calls, with the way to the state where that is noted.
+    pub fn after(self, way: impl FnOnce() -> DayFile) -> Self {
+        Self { file: day_file::if_noted(way), ..self }
     }
 
     /// Values of the length that is lent, with anything past these.
@@ -86,6 +98,7 @@ impl<'a> Calls<'a> {
         decode: impl FnOnce() -> Plan,
     ) -> Result<Option<Plan>, Failure> {
         self.lent.expect_model(model);
+        self.edges = Some(model.edges.len());
         if number > 0 {
             self.gives(asked, answers::refused_model(number))?;
             return Ok(None);
@@ -109,9 +122,23 @@ impl<'a> Calls<'a> {
         note.put(&answer)
     }
 
+    /// What a call uses. How many values are looked at is known where the model is.
+    fn day_file(&self, asked: &Asked) -> DayFile {
+        let file = self.file.clone().at_limit(asked.limit);
+        match (&asked.values, self.edges) {
+            (None, _) => file.of_call("model"),
+            (Some(values), Some(edges)) => file.values(&values[..edges]).of_call("check_values"),
+            (Some(_), None) => {
+                let comment = "Values beside a refused model are not looked at.";
+                file.of_call("check_values").comment(comment)
+            }
+        }
+    }
+
     /// Makes the call: it must give this answer and leave what is expected.
     pub fn gives(&mut self, asked: &Asked, answer: ModelAnswer) -> Outcome {
         note(|| self.noted(asked, answer));
+        day_file::note(|| self.day_file(asked));
         let mut values = asked.values.as_deref().map(Guarded::holding);
         let tables = ModelTables {
             preferences: self.preferences.lend().into(),

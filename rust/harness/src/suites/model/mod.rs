@@ -18,7 +18,7 @@ use crate::suites::generator::look_at_model;
 use oracle::Record;
 use scene::{Scene, random_model_day};
 
-const DAYS: Days = Days { usual: 20_000, for_features: 5_000 };
+const DAYS: Days = Days { usual: 20_000, for_features: 20_000 };
 
 pub fn run(run: &mut Run) {
     let mut features = Features::default();

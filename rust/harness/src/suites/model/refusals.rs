@@ -9,6 +9,7 @@ use crate::answers;
 use crate::bridge;
 use crate::damage::{self, Damage, Input};
 use crate::day::sample_day;
+use crate::day_file;
 use crate::features::Features;
 use crate::random::Random;
 use crate::reading::{Handed, Layout, faults, values_number};
@@ -37,6 +38,11 @@ const TABLES: [fn(&mut Input); 5] = [
 ];
 
 pub fn run(run: &mut Run) {
+    run.fixed(wrong_lengths);
+    refused::each_day(run, DAYS, &damage::of_models(), &NUMBERS, one_day);
+}
+
+fn wrong_lengths(run: &mut Run) {
     for (place, buffer) in BUFFERS.into_iter().enumerate() {
         let model = if place < OF_MODEL { 2 } else { 0 };
         let short = |input: &mut Input| input.buffers[place].1 = buffer.named_length() - 1;
@@ -45,7 +51,6 @@ pub fn run(run: &mut Run) {
     for change in TABLES {
         run.case(|random| one_length(random, change, [2, 2]));
     }
-    refused::each_day(run, DAYS, &damage::of_models(), &NUMBERS, one_day);
 }
 
 /// The sample day with a wrong length: each call gives its number.
@@ -70,21 +75,27 @@ fn one_day(random: &mut Random, damages: &[&Damage], features: &mut Features) ->
         let sound = input(random, &scene);
         let input = damaged(random, damages, features, sound);
         let limit = random_limit(random, &day);
-        let mut trial = Trial::new(random, features, &input, limit);
-        trial.model()?;
-        trial.check_values(random)?;
+        both(random, features, &input, limit)?;
     }
     Ok(())
 }
 
+/// Both calls on an input.
+pub fn both(random: &mut Random, features: &mut Features, input: &Input, limit: u32) -> Outcome {
+    let mut trial = Trial::new(random, features, input, limit);
+    trial.model()?;
+    trial.check_values(random)
+}
+
 /// Sound input: the state that the walk stands at.
-fn input(random: &mut Random, scene: &Scene) -> Input {
+pub fn input(random: &mut Random, scene: &Scene) -> Input {
     let lengths = random_lengths(random);
     let state = scene.walk.plain_state();
     Input {
         buffers: BUFFERS.into_iter().zip(lengths).collect(),
         schedule: state.schedule.clone(),
         state,
+        trail: day_file::if_noted(|| scene.walk.trail.clone()),
         ..Input::bare(scene.walk.day.clone())
     }
 }
@@ -117,6 +128,7 @@ impl<'a> Trial<'a> {
         let lent = layouts.map(|layout| input.lend(random, layout));
         let lengths = array::from_fn(|place| buffers[place].1);
         let calls = Calls::new(day, lent, &state.lists, lengths);
+        let calls = calls.after(|| input.file_of_state("model"));
         Self { features, input, limit, calls, numbers }
     }
 

@@ -86,6 +86,7 @@ impl<'a> Scene<'a> {
         let state = self.walk.handed_on(random);
         let day = self.walk.day;
         let lent = [lent_day(random, day), lent(random, Layout::State, &state)];
-        Calls::new(day, lent, &self.walk.bytes, random_lengths(random))
+        let calls = Calls::new(day, lent, &self.walk.bytes, random_lengths(random));
+        calls.after(|| self.walk.file("model"))
     }
 }

@@ -34,7 +34,7 @@ impl<'a> Trial<'a> {
     pub fn judge(&mut self, random: &mut Random, values: &[i32]) -> Result<Option<Plan>, Failure> {
         let Self { scene, limit, model, calls, .. } = self;
         let number = first(self.features, "check_values", &values_faults(model, values));
-        if random.chance(80) {
+        if random.mostly(80) {
             calls.lent.reset();
         }
         let asked = Asked { limit: *limit, values: Some(calls.with_rest(random, values)) };

@@ -1,7 +1,8 @@
 //! The four calls on a plan, on guarded input, compared in all that they give
 //! and leave.
 use crate::day::Day;
-use crate::reading::Asked;
+use crate::day_file::{self, DayFile};
+use crate::reading::{Asked, Layout};
 use crate::recording::{Entry, Note, note};
 use crate::run::{Outcome, wanted};
 use crate::suites::kept::Kept;
@@ -112,11 +113,19 @@ impl<'a> Calls<'a> {
     pub fn gives(&mut self, call: Call, (answer, front): (Answer, Vec<u8>)) -> Outcome {
         self.roster.expect(&front);
         note(|| self.noted(call, answer));
+        day_file::note(|| self.day_file(call));
         let found = self.make(call);
         let input = || format!("{call:?} of {:?} plan {:?}", self.day, self.plan.now());
         wanted(found, answer, input)?;
         wanted([&self.lent_day, &self.plan].map(Guarded::changed), [None; 2], input)?;
         self.roster.is_right("roster", &input)
+    }
+
+    /// What a call uses. It has no schedule.
+    fn day_file(&self, call: Call) -> DayFile {
+        let is_other = self.lent_day.now().len() != Layout::Day.named_length();
+        let file = DayFile::new(format!("{call:?}"), self.day).plan(self.plan.now());
+        file.unless(is_other, "the bytes of the day have another length")
     }
 
     fn noted(&self, call: Call, answer: Answer) -> Note {

@@ -1,6 +1,6 @@
 //! The calls on a plan beside the Rust's, on plans that the exact solver finds,
 //! changed ones and wild ones.
-mod calls;
+pub mod calls;
 pub mod refusals;
 
 use crate::boundary::lent_day;
@@ -48,7 +48,7 @@ fn plans(
         let solved = problem.solver().search(&schedule[..day.choices]);
         let found = solved.and_then(|search| search.plan);
         features.look("a plan of the solver", found.is_some());
-        plans.extend(found.map(|found| of_rows(random, &found)));
+        plans.extend(found.map(|found| of_rows(random, day, &found)));
     }
     if let Some(plan) = plans.last() {
         plans.push(changed_plan(random, day, &schedule, plan));

@@ -39,16 +39,27 @@ fn one_day(random: &mut Random, damages: &[&Damage], features: &mut Features) ->
     for _ in 0..TRIES {
         let sound = input(random, &day);
         let input = damaged(random, damages, features, sound);
-        for call in calls(&input.asked) {
-            one_call(random, features, &problem, &input, call)?;
-        }
+        all_calls(random, features, &problem, &input)?;
+    }
+    Ok(())
+}
+
+/// All calls on an input.
+pub fn all_calls(
+    random: &mut Random,
+    features: &mut Features,
+    problem: &Problem,
+    input: &Input,
+) -> Outcome {
+    for call in calls(&input.asked) {
+        one_call(random, features, problem, input, call)?;
     }
     Ok(())
 }
 
 /// Sound input, save where there are seats and no choice: there every plan is
 /// refused.
-fn input(random: &mut Random, day: &Day) -> Input {
+pub fn input(random: &mut Random, day: &Day) -> Input {
     Input {
         buffers: vec![(Buffer::Roster, Buffer::Roster.named_length() + random.below(3))],
         asked: random_asked(random, day),

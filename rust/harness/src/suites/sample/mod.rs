@@ -1,17 +1,19 @@
 //! The sample day: what SPEC 13 says of it, and of scores,
 //! holds of the Rust and, as far as it runs, of the port.
+mod files;
 mod models;
 mod verdicts;
 
 use crate::answers::{self, Pair};
 use crate::boundary;
 use crate::bridge;
-use crate::day::{CHOICES, Day, sample_day};
+use crate::day::{Day, sample_day};
 use crate::run::{Run, wanted};
-use crate::schedule::Schedule;
+use crate::schedule::whole;
 use crate::search::Memory;
 use crate::state::LISTS;
 use crate::suites::search::walk::Walk;
+use crate::suites::state;
 use oracle::{Ask, Told};
 use port::Scheduling;
 
@@ -23,10 +25,12 @@ pub fn run(run: &mut Run) {
     scores(run);
     states(run);
     port_states(run);
+    walk(run);
     limits(run);
     models::run(run);
     verdicts::run(run);
     searches(run);
+    files::run(run);
 }
 
 /// -0.0 is less than +0.0 at equal majors, and the order has a circle.
@@ -76,6 +80,25 @@ fn port_states(run: &mut Run) {
     });
 }
 
+/// Build, update and build again beside the Rust, with every slot's list.
+fn walk(run: &mut Run) {
+    let day = sample_day();
+    let problem = bridge::problem(&day);
+    run.case(|random| {
+        let mut solver = problem.solver();
+        let mut walk = state::walk::Walk::new(random, &day);
+        let first = solver.prepare(&SCHEDULE);
+        walk.build(random, &whole(&SCHEDULE), &first)?;
+        walk.ask(random, &first)?;
+        let carried = solver.prepare(&MOVED);
+        walk.update(random, &whole(&MOVED), &carried)?;
+        walk.ask(random, &carried)?;
+        let afresh = problem.solver().prepare(&MOVED);
+        walk.build(random, &whole(&MOVED), &afresh)?;
+        walk.ask(random, &afresh)
+    });
+}
+
 /// The most that a day may have passes, and one more is refused.
 fn limits(run: &mut Run) {
     let most = || Day { max_preference: 255, ..Day::bare(64, 32, 8) };
@@ -112,11 +135,4 @@ fn one_search(run: &mut Run, day: &Day, script: &[Told], levels: (Vec<u32>, u32)
         let asks = rust.asks.into_iter().map(|Ask { limit, .. }| limit).collect();
         wanted((asks, walk.port.level), levels, || format!("asks of {day:?}"))
     });
-}
-
-/// The schedule with an entry for each of the choices that a day may have.
-fn whole(slots: &[Option<usize>]) -> Schedule {
-    let mut schedule = slots.to_vec();
-    schedule.resize(CHOICES, None);
-    schedule
 }

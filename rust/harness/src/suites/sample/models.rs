@@ -1,5 +1,5 @@
 //! Models and plans of the sample day, of the Rust and of the port.
-use super::{SCHEDULE, whole};
+use super::SCHEDULE;
 use crate::bridge;
 use crate::constraint::{Constraint, kind, target};
 use crate::day::{Day, sample_day};
@@ -7,6 +7,7 @@ use crate::features::Features;
 use crate::random::Random;
 use crate::reading;
 use crate::run::{Failure, Run, wanted};
+use crate::schedule::whole;
 use crate::suites::model::calls::Asked;
 use crate::suites::model::scene::Scene;
 use crate::suites::model::trial::Trial;

@@ -1,12 +1,13 @@
 //! Verdicts and scores of the sample day, of the Rust and of the port.
+use super::SCHEDULE;
 use super::models::rows;
-use super::{SCHEDULE, whole};
 use crate::answers::{Pair, score_bits};
 use crate::bridge;
 use crate::constraint::{Constraint, extra, kind, target};
 use crate::day::{Day, sample_day};
 use crate::plan::of_rows;
 use crate::run::{Run, wanted};
+use crate::schedule::whole;
 use crate::scores::INFINITE;
 use crate::suites::verdict::calls::{Answer, COMPLETE, Call, Calls, Judge, SCHEDULING};
 use oracle::Plan;
@@ -59,7 +60,7 @@ fn verdict(holds: bool) -> Answer {
 fn gives(run: &mut Run, day: &Day, rows: &Plan, call: Call, answer: Answer) {
     let problem = bridge::problem(day);
     run.case(|random| {
-        let (schedule, plan) = (whole(&SCHEDULE), of_rows(random, rows));
+        let (schedule, plan) = (whole(&SCHEDULE), of_rows(random, day, rows));
         let judge = Judge { day, problem: &problem, has_own_powers: true };
         let rust = judge.answer(call, &schedule, &plan);
         wanted(rust, answer, || format!("the Rust's {call:?} of rows {rows:?}"))?;

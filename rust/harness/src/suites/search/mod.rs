@@ -1,6 +1,6 @@
 //! Scripted searches of the Rust's own `solve_until` beside the port's: every
 //! path over few levels, and random ones over as many as there may be.
-mod paths;
+pub mod paths;
 pub mod refusals;
 pub mod walk;
 
@@ -24,7 +24,11 @@ const SEARCHES: usize = 5;
 const SCRIPT: usize = 10;
 
 pub fn run(run: &mut Run) {
-    paths::run(run);
+    run.fixed(paths::run);
+    random_days(run);
+}
+
+pub fn random_days(run: &mut Run) {
     let mut features = Features::default();
     run.each_day(DAYS, &mut features, one_day);
 }

@@ -22,7 +22,7 @@ pub fn run(run: &mut Run) {
             for greedy in [false, true] {
                 let day = Day { bound, greedy, ..day_of(count) };
                 for script in scripts(&day) {
-                    run.case(|random| one_path(random, &day, &script));
+                    run.case_of_day(|random| one_path(random, &day, &script));
                 }
             }
         }
@@ -32,7 +32,7 @@ pub fn run(run: &mut Run) {
 /// One seat, and choices whose preferences descend through the levels, so that
 /// the first edge at each level is of another choice. Two more choices that
 /// everybody prefers stand at the end.
-fn day_of(count: usize) -> Day {
+pub fn day_of(count: usize) -> Day {
     let levels = (0..count as u32).map(|place| STEP * place + 2).collect::<Vec<_>>();
     let mut day = Day::bare(1, count + 2, 1);
     day.max_preference = STEP * (count as u32 + 1);
@@ -44,7 +44,7 @@ fn day_of(count: usize) -> Day {
 
 /// The search without a memory and again; then with a memory of another
 /// schedule, and the search of that schedule again.
-fn one_path(random: &mut Random, day: &Day, script: &[Told]) -> Outcome {
+pub fn one_path(random: &mut Random, day: &Day, script: &[Told]) -> Outcome {
     let problem = bridge::problem(day);
     let all = schedule(day.choices);
     let none = Memory::NONE;

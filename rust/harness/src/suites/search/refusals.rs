@@ -5,6 +5,7 @@ use crate::answers::{self, refused_search};
 use crate::boundary::{self, entries};
 use crate::damage::{self, Damage, Input};
 use crate::day::{Day, random_day, random_size};
+use crate::day_file::{self, DayFile};
 use crate::features::Features;
 use crate::plan::{PLAN, random_plan};
 use crate::random::Random;
@@ -18,7 +19,7 @@ use oracle::Told;
 use port::guarded::Guarded;
 use port::{Scheduling, SearchAnswer};
 
-const DAYS: Days = Days { usual: 20_000, for_features: 5_000 };
+const DAYS: Days = Days { usual: 20_000, for_features: 20_000 };
 
 /// Damaged inputs on each day.
 const TRIES: usize = 5;
@@ -39,15 +40,20 @@ fn one_day(random: &mut Random, damages: &[&Damage], features: &mut Features) ->
     for _ in 0..TRIES {
         let sound = input(random, &day);
         let input = damaged(random, damages, features, sound);
-        begin(random, features, &input)?;
-        tell(random, features, &input)?;
+        both(random, features, &input)?;
     }
     Ok(())
 }
 
+/// Both calls on an input.
+pub fn both(random: &mut Random, features: &mut Features, input: &Input) -> Outcome {
+    begin(random, features, input)?;
+    tell(random, features, input)
+}
+
 /// Sound input, save where there are seats and no choice to sit in: there every
 /// plan is refused.
-fn input(random: &mut Random, day: &Day) -> Input {
+pub fn input(random: &mut Random, day: &Day) -> Input {
     let schedule = random_schedule(random, day);
     let plan = random_plan(random, day, &schedule).unwrap_or(vec![0; PLAN]);
     Input { schedule, plan, ..Input::bare(day.clone()) }.searching(random)
@@ -64,6 +70,7 @@ fn begin(random: &mut Random, features: &mut Features, input: &Input) -> Outcome
         cached: Some(&search.cached),
         ..Handed::default()
     };
+    day_file::note(|| input.file_of_begin());
     let number = first(features, "begin", &faults(&handed));
     let own = Scheduling { entries: entries(schedule) };
     let answer = answer(number, || begun(day, own, search.cached));
@@ -98,6 +105,7 @@ fn tell(random: &mut Random, features: &mut Features, input: &Input) -> Outcome 
         cached: Some(&search.cached),
         ..Handed::default()
     };
+    day_file::note(|| DayFile::none("a search that is under way cannot be said"));
     let number = first(features, "tell", &faults(&handed));
     look(features, &handed, plan, number);
     let entry = match *result {

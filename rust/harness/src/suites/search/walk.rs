@@ -4,14 +4,17 @@
 use crate::answers::{self, refused_search};
 use crate::boundary;
 use crate::day::Day;
+use crate::day_file::{self, DayFile};
 use crate::plan::{PLAN, of_rows, rows};
 use crate::random::Random;
+use crate::recording::{Entry, Note, note};
 use crate::run::{Failure, Outcome, same, wanted};
 use crate::schedule::Schedule;
 use crate::search::{FEASIBLE, INFEASIBLE, Memory, Search, ask_of, begun, told};
 use oracle::{Problem, SearchRun, Solver, Told};
 use port::guarded::Guarded;
-use port::{CachedAssignment, InputData, Scheduling, SearchAnswer};
+use port::{AsBytes, CachedAssignment, InputData, Scheduling, SearchAnswer};
+use std::slice;
 
 /// Tells what is searched.
 type Trace<'a> = dyn Fn() -> String + 'a;
@@ -50,7 +53,11 @@ impl<'a> Walk<'a> {
         let own = self.day;
         let cached = boundary::remembered(random, own, self.cached);
         let trace = || format!("{own:?} {schedule:?} {script:?} with {cached:?}");
+        day_file::note(|| self.day_file(schedule, script, &cached));
         let rust = self.solver.search_told(&schedule[..own.choices], script);
+        // What the Rust did not ask for need not be said.
+        let asked = &script[..rust.asks.len()];
+        day_file::note(|| self.day_file(schedule, asked, &cached));
         let day = boundary::day(random, own);
         let lent = boundary::schedule(random, own, schedule);
         let mut answer = self.begin(random, &day, lent, cached, &trace)?;
@@ -69,6 +76,18 @@ impl<'a> Walk<'a> {
         Ok(rust)
     }
 
+    /// What a search uses. What it is told, and what it remembers, are comments.
+    fn day_file(&self, schedule: &Schedule, script: &[Told], cached: &Memory) -> DayFile {
+        let file = DayFile::new("a search", self.day).trail(slice::from_ref(schedule)).searched();
+        let file = file.comment(format!("It is told: {script:?}"));
+        if !cached.there {
+            return file;
+        }
+        let slots = &boundary::slots(&cached.schedule)[..self.day.choices];
+        let greedy = cached.greedy;
+        file.comment(format!("It remembers a plan of the schedule {slots:?}, greedy {greedy}."))
+    }
+
     fn begin(
         &mut self,
         random: &mut Random,
@@ -78,10 +97,18 @@ impl<'a> Walk<'a> {
         trace: &Trace,
     ) -> Result<SearchAnswer, Failure> {
         let greedy = boundary::setting(random, self.day.greedy);
-        let (levels, memory) = (self.levels.lend(), CachedAssignment::from(cached));
+        let memory = CachedAssignment::from(cached);
+        let answer = answers::search(begun(self.day, schedule, cached));
+        note(|| {
+            let note = Note::new(Entry::Begin, 0).known_by(answer.search.is_asking());
+            let note = note.day(self.day, day.bytes()).table(schedule.bytes());
+            let note = note.table(&self.day.levels).put(&self.day.bound).put(&greedy);
+            note.table(memory.bytes()).put(&answer)
+        });
+        let levels = self.levels.lend();
         let found = port::begin(day, &schedule, levels, self.day.bound, greedy, &memory);
         let input = || format!("begin {}", trace());
-        wanted(found, answers::search(begun(self.day, schedule, cached)), input)?;
+        wanted(found, answer, input)?;
         wanted(self.levels.changed(), None, input)?;
         Ok(found)
     }
@@ -90,7 +117,7 @@ impl<'a> Walk<'a> {
     /// of any length.
     fn plan(&mut self, random: &mut Random, entry: Told, limit: u32) -> Vec<u8> {
         if entry == Told::Feasible {
-            return of_rows(random, &self.solver.plan_told(limit));
+            return of_rows(random, self.day, &self.solver.plan_told(limit));
         }
         let length = random.pick(&[0, 1, PLAN - 1, PLAN, PLAN + 1]);
         vec![random.bits() as u8; length]
@@ -104,19 +131,35 @@ impl<'a> Walk<'a> {
         (entry, plan): (Told, &[u8]),
         trace: &Trace,
     ) -> Result<SearchAnswer, Failure> {
-        let others = [2, 3, 256, u32::MAX];
+        let others = [2, 3, 256, 257, u32::MAX];
         let result = match entry {
             Told::Feasible => FEASIBLE,
             Told::Infeasible => INFEASIBLE,
             Told::Late => random.pick(&others),
         };
+        let answer = answers::search(told(self.day, &Search::from(*search), entry, plan));
+        note(|| {
+            let note = Note::new(Entry::Tell, 0).known_by(answer.search.is_asking());
+            self.noted(note.about(Some(result.min(2))), day, search, (result, plan)).put(&answer)
+        });
         let mut lent = Guarded::holding(plan);
         let found = port::tell(day, search, self.levels.lend(), result, lent.lend());
         let input = || format!("tell {search:?} {result} {}", trace());
-        let step = told(self.day, &Search::from(*search), entry, plan);
-        wanted(found, answers::search(step), input)?;
+        wanted(found, answer, input)?;
         wanted((self.levels.changed(), lent.changed()), (None, None), input)?;
         Ok(found)
+    }
+
+    /// What a search is told, put down in a note.
+    fn noted(
+        &self,
+        note: Note,
+        day: &InputData,
+        search: &port::Search,
+        (result, plan): (u32, &[u8]),
+    ) -> Note {
+        let note = note.day(self.day, day.bytes()).table(search.bytes());
+        note.table(&self.day.levels).put(&result).table(plan)
     }
 
     /// A search that has ended can be told nothing.
@@ -130,9 +173,11 @@ impl<'a> Walk<'a> {
         let (result, length) = random.pick(&[(FEASIBLE, PLAN), (INFEASIBLE, 0), (2, 0)]);
         // Feasible takes a sound plan, which there is where one was found.
         let result = if search.is_found() { result } else { result.max(INFEASIBLE) };
-        let found = port::tell(day, search, self.levels.lend(), result, &search.plan[..length]);
+        let (plan, refused) = (&search.plan[..length], refused_search(18));
+        note(|| self.noted(Note::new(Entry::Tell, 18), day, search, (result, plan)).put(&refused));
+        let found = port::tell(day, search, self.levels.lend(), result, plan);
         let input = || format!("after the end {search:?} {}", trace());
-        wanted((found, self.levels.changed()), (refused_search(18), None), input)
+        wanted((found, self.levels.changed()), (refused, None), input)
     }
 
     /// The Rust has the same plan and remembers the same.

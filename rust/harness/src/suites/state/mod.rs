@@ -1,7 +1,7 @@
 //! Build, update and slot_list beside the Rust: a fresh build, a chain of
 //! updates through the Rust's cached path, and a build over what the chain left.
 pub mod refusals;
-mod scene;
+pub mod scene;
 pub mod walk;
 
 use crate::bridge;
@@ -15,7 +15,7 @@ use crate::state::LISTS;
 use oracle::State;
 use walk::Walk;
 
-const DAYS: Days = Days { usual: 20_000, for_features: 2_000 };
+const DAYS: Days = Days { usual: 20_000, for_features: 10_000 };
 
 pub fn run(run: &mut Run) {
     let mut features = Features::default();

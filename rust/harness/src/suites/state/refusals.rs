@@ -8,6 +8,7 @@ use crate::answers;
 use crate::bridge;
 use crate::damage::{self, Damage, Input};
 use crate::day::{random_day, random_size};
+use crate::day_file;
 use crate::features::Features;
 use crate::random::Random;
 use crate::reading::Asked;
@@ -46,10 +47,7 @@ fn one_day(random: &mut Random, damages: &[&Damage], features: &mut Features) ->
         for _ in 0..TRIES {
             let sound = input(random, &walk, &schedule);
             let input = damaged(random, damages, features, sound);
-            let mut scene = Scene { features: &mut *features, walk: &mut walk, input, done };
-            scene.build(random)?;
-            scene.update(random)?;
-            scene.slot_list(random)?;
+            Scene { features, walk: &mut walk, input, done }.calls(random)?;
         }
         walk.update(random, &schedule, &rust)?;
     }
@@ -57,12 +55,13 @@ fn one_day(random: &mut Random, damages: &[&Damage], features: &mut Features) ->
 }
 
 /// Sound input: the state that the walk stands at, and the next schedule.
-fn input(random: &mut Random, walk: &Walk, schedule: &Schedule) -> Input {
+pub fn input(random: &mut Random, walk: &Walk, schedule: &Schedule) -> Input {
     let slots = walk.day.slots;
     Input {
         asked: (slots > 0).then(|| Asked::Slot(random.below(slots))).into_iter().collect(),
         schedule: schedule.clone(),
         state: walk.plain_state(),
+        trail: day_file::if_noted(|| walk.trail.clone()),
         ..Input::bare(walk.day.clone())
     }
 }

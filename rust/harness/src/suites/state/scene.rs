@@ -3,6 +3,7 @@ use super::walk::Walk;
 use crate::answers::{self, refused_state};
 use crate::damage::Input;
 use crate::day::Day;
+use crate::day_file;
 use crate::features::Features;
 use crate::lists::{carry, lengths};
 use crate::random::Random;
@@ -32,6 +33,13 @@ pub struct Scene<'a, 'b> {
 }
 
 impl Scene<'_, '_> {
+    /// All three.
+    pub fn calls(&mut self, random: &mut Random) -> Outcome {
+        self.build(random)?;
+        self.update(random)?;
+        self.slot_list(random)
+    }
+
     pub fn build(&mut self, random: &mut Random) -> Outcome {
         let Input { day, schedule, state, .. } = &self.input;
         let buffers = [(Buffer::SlotLists, state.lists.len())];
@@ -122,6 +130,11 @@ impl Scene<'_, '_> {
         layouts: &mut Layouts<N>,
         make: impl FnOnce(&mut Layouts<N>, &mut [u8]) -> T,
     ) -> Outcome {
+        day_file::note(|| match call {
+            "build" => self.input.file_of_build(),
+            "update" => self.input.file_of_update(),
+            _ => self.input.file_of_state(call),
+        });
         let lent = &self.input.state.lists;
         let mut copy = Guarded::holding(lent);
         let is_own = number > 0 && *lent == self.walk.bytes;

@@ -3,18 +3,22 @@
 use crate::answers;
 use crate::boundary;
 use crate::day::{CHOICES, Day};
+use crate::day_file::{self, DayFile};
 use crate::lists::{carry, fronts};
 use crate::random::Random;
+use crate::recording::{Entry, Note, note};
 use crate::run::{Outcome, same, wanted};
 use crate::schedule::Schedule;
 use crate::state::{LISTS, State};
 use port::guarded::Guarded;
-use port::{ScheduleState, StateAnswer};
+use port::{AsBytes, ScheduleState, StateAnswer};
 
 pub struct Walk<'a> {
     pub day: &'a Day,
     /// The schedule that the walk stands at, for the day's choices.
     pub schedule: Schedule,
+    /// The schedules since the last build, that one included.
+    pub trail: Vec<Schedule>,
     /// As the port gave it.
     pub state: ScheduleState,
     /// As the port left it.
@@ -30,7 +34,8 @@ impl<'a> Walk<'a> {
         let lists = random_buffer(random, length);
         let bytes = lists.now().to_vec();
         let state = answers::refused_state(0).state;
-        Self { day, schedule: vec![None; day.choices], state, lists, bytes }
+        let schedule = vec![None; day.choices];
+        Self { day, schedule, trail: Vec::new(), state, lists, bytes }
     }
 
     /// A fresh build, whatever stands in the buffer.
@@ -41,10 +46,17 @@ impl<'a> Walk<'a> {
         rust: &oracle::State,
     ) -> Outcome {
         self.schedule.fill(None);
+        self.trail = vec![rust.schedule.clone()];
+        day_file::note(|| self.file("build"));
         let before = self.bytes.clone();
         carry(&mut self.bytes, &self.schedule, &rust.schedule);
         let day = boundary::day(random, self.day);
         let schedule = boundary::schedule(random, self.day, schedule);
+        note(|| {
+            let note = Note::new(Entry::Build, 0).day(self.day, day.bytes());
+            let note = note.table(schedule.bytes()).slice(&before, &self.bytes);
+            note.put(&answers::state(self.day, rust))
+        });
         let answer = port::build(&day, &schedule, self.lists.lend());
         self.takes("build", answer, rust, &before)
     }
@@ -55,11 +67,18 @@ impl<'a> Walk<'a> {
         schedule: &Schedule,
         rust: &oracle::State,
     ) -> Outcome {
+        self.trail.push(rust.schedule.clone());
+        day_file::note(|| self.file("update"));
         let before = self.bytes.clone();
         carry(&mut self.bytes, &self.schedule, &rust.schedule);
         let day = boundary::day(random, self.day);
         let state = self.handed_on(random);
         let schedule = boundary::schedule(random, self.day, schedule);
+        note(|| {
+            let note = Note::new(Entry::Update, 0).day(self.day, day.bytes());
+            let note = note.table(state.bytes()).table(schedule.bytes());
+            note.slice(&before, &self.bytes).put(&answers::state(self.day, rust))
+        });
         let answer = port::update(&day, &state, &schedule, self.lists.lend());
         self.takes("update", answer, rust, &before)
     }
@@ -69,16 +88,27 @@ impl<'a> Walk<'a> {
         let day = boundary::day(random, self.day);
         let state = self.handed_on(random);
         for (slot, list) in rust.lists.iter().enumerate() {
+            let wanted_answer = answers::slot_list(slot, list.len());
+            note(|| {
+                let note = Note::new(Entry::SlotList, 0).day(self.day, day.bytes());
+                note.table(state.bytes()).table(&self.bytes).put(&slot).put(&wanted_answer)
+            });
+            day_file::note(|| self.file(&format!("slot_list of slot {slot}")));
             let answer = port::slot_list(&day, &state, self.lists.lend(), slot);
             let input =
                 || format!("slot_list {slot} {:?} {:?} {:?}", self.day, self.state, self.bytes);
-            same(answer, answers::slot_list(slot, list.len()), input)?;
+            same(answer, wanted_answer, input)?;
             let part = &self.lists.now()[answer.range()];
             let part = part.iter().map(|&choice| choice.into()).collect::<Vec<usize>>();
             same(&part, list, input)?;
             wanted(self.lists.differs_from(&self.bytes), None, input)?;
         }
         Ok(())
+    }
+
+    /// The way to where the walk stands, for a call.
+    pub fn file(&self, call: &str) -> DayFile {
+        DayFile::new(call, self.day).trail(&self.trail)
     }
 
     /// The state that the walk stands at, in plain data.
@@ -95,7 +125,7 @@ impl<'a> Walk<'a> {
 
     /// The state as it was given, or with anything past the day's sizes.
     pub fn handed_on(&self, random: &mut Random) -> ScheduleState {
-        if random.chance(50) {
+        if random.mostly(50) {
             self.state
         } else {
             boundary::with_rest(random, self.day, self.state)

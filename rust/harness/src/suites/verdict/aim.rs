@@ -33,7 +33,7 @@ pub fn random_aimed(random: &mut Random, size: Size) -> Aimed {
     if random.chance(40) {
         fit_slots(random, &mut day, &schedule);
     }
-    let has_own_powers = random.chance(75);
+    let has_own_powers = random.mostly(75);
     if !has_own_powers {
         put_powers(random, &mut day);
     }

@@ -3,6 +3,7 @@
 use crate::answers::score_bits;
 use crate::boundary::{self, lent, lent_day};
 use crate::day::Day;
+use crate::day_file::{self, DayFile};
 use crate::plan::{Plan, rows};
 use crate::random::Random;
 use crate::reading::Layout;
@@ -12,7 +13,7 @@ use crate::schedule::Schedule;
 use crate::scores::{INFINITE, score_of};
 use oracle::{Problem, calls};
 use port::guarded::Guarded;
-use port::{Score, ScoreAnswer, ScoreTables, Solution, VerdictAnswer};
+use port::{Scheduling, Score, ScoreAnswer, ScoreTables, Solution, VerdictAnswer};
 
 /// The kinds of a solution. Any other is Invalid.
 pub const SCHEDULING: u32 = 1;
@@ -172,9 +173,15 @@ impl<'a> Calls<'a> {
         }
     }
 
+    /// The same with this number for the greedy setting.
+    pub fn with_greedy(self, greedy: u32) -> Self {
+        Self { greedy, ..self }
+    }
+
     /// Makes the call: it must give this answer and change nothing.
     pub fn gives(&mut self, call: Call, answer: Answer) -> Outcome {
         note(|| self.noted(call, answer));
+        day_file::note(|| self.day_file(call));
         let found = self.make(call);
         let input = || {
             let (day, schedule, plan) = (self.day, self.schedule.now(), self.plan.now());
@@ -184,6 +191,24 @@ impl<'a> Calls<'a> {
         let bytes = [&self.lent_day, &self.schedule, &self.plan].map(Guarded::changed);
         let changes = (bytes, self.preferences.changed(), self.powers.changed());
         wanted(changes, ([None; 3], None, None), input)
+    }
+
+    /// What a call uses.
+    fn day_file(&self, call: Call) -> DayFile {
+        let name = match call {
+            Call::Evaluate { solution } => format!("evaluate of a solution of kind {solution}"),
+            _ => call.name().to_owned(),
+        };
+        let file = DayFile::new(name, self.day);
+        let file = match self.schedule.now().try_into() {
+            Ok(entries) if call.reads_schedule() => {
+                file.trail(&[boundary::slots(&Scheduling { entries })])
+            }
+            _ => file.unless(call.reads_schedule(), "the schedule has another length"),
+        };
+        let file = if call.reads_plan() { file.plan(self.plan.now()) } else { file };
+        let is_other = self.lent_day.now().len() != Layout::Day.named_length();
+        file.unless(is_other, "the bytes of the day have another length")
     }
 
     fn noted(&self, call: Call, answer: Answer) -> Note {

@@ -15,7 +15,7 @@ use aim::{Aimed, fit_choices, random_aimed};
 use calls::{Answer, COMPLETE, Call, Calls, Judge, SCHEDULING};
 use oracle::Problem;
 
-const DAYS: Days = Days { usual: 20_000, for_features: 5_000 };
+const DAYS: Days = Days { usual: 20_000, for_features: 10_000 };
 
 pub fn run(run: &mut Run) {
     let mut features = Features::default();
@@ -82,7 +82,9 @@ fn solved_plan(
     let mut solver = problem.solver();
     solver.prepare(&schedule[..day.choices]);
     match oracle::solve(&solver.model(limit)) {
-        oracle::Outcome::Solved(values) => Some(of_rows(random, &solver.decode(limit, &values))),
+        oracle::Outcome::Solved(values) => {
+            Some(of_rows(random, day, &solver.decode(limit, &values)))
+        }
         _ => None,
     }
 }

@@ -14,7 +14,7 @@ use crate::schedule::random_schedule;
 use crate::suites::refused::{self, Numbers, damaged, first};
 use oracle::Problem;
 
-const DAYS: Days = Days { usual: 20_000, for_features: 5_000 };
+const DAYS: Days = Days { usual: 20_000, for_features: 10_000 };
 
 /// Damaged inputs on each day.
 const TRIES: usize = 5;
@@ -43,16 +43,27 @@ fn one_day(random: &mut Random, damages: &[&Damage], features: &mut Features) ->
     for _ in 0..TRIES {
         let sound = input(random, &day);
         let input = damaged(random, damages, features, sound);
-        for call in Call::all(random.pick(&[COMPLETE, COMPLETE, COMPLETE, SCHEDULING, 0, 3])) {
-            one_call(random, features, &problem, &input, call)?;
-        }
+        all_calls(random, features, &problem, &input)?;
+    }
+    Ok(())
+}
+
+/// All calls on an input, with some kind of solution.
+pub fn all_calls(
+    random: &mut Random,
+    features: &mut Features,
+    problem: &Problem,
+    input: &Input,
+) -> Outcome {
+    for call in Call::all(random.pick(&[COMPLETE, COMPLETE, COMPLETE, SCHEDULING, 0, 3])) {
+        one_call(random, features, problem, input, call)?;
     }
     Ok(())
 }
 
 /// Sound input, save where there are seats and no choice to sit in: there every
 /// plan is refused.
-fn input(random: &mut Random, day: &Day) -> Input {
+pub fn input(random: &mut Random, day: &Day) -> Input {
     let schedule = random_schedule(random, day);
     let plan = random_plan(random, day, &schedule).unwrap_or(vec![0; PLAN]);
     Input { schedule, plan, ..Input::bare(day.clone()) }

@@ -2,6 +2,7 @@
 use super::room::{Fields, Room, fields};
 use crate::answers;
 use crate::call::{Call, Name};
+use crate::day_file::{self, DayFile};
 use crate::lists::carry;
 use crate::random::Random;
 use crate::reading::Layout;
@@ -31,6 +32,7 @@ struct Made {
 
 /// Makes the call, and gives its number if all is as it should be.
 pub fn judge(random: &mut Random, room: &mut Room, call: &Call) -> Result<u32, Failure> {
+    day_file::note(|| DayFile::none("what is lent are bytes of any sort"));
     let made = made(random, room, call)?;
     let number = made.number;
     if let Some(same) = with_ones(call) {

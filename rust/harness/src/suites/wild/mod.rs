@@ -30,16 +30,21 @@ const CALLS: usize = 20;
 
 pub fn run(run: &mut Run) {
     let room = RefCell::new(Room::new());
-    for flag in 0..=u8::MAX {
-        for (levels, range) in [(0, 0), (2, 5)] {
-            let call = greedy_told(flag, levels, range);
-            run.case(|random| judge(random, &mut room.borrow_mut(), &call).map(|_| ()));
-        }
-    }
+    run.fixed(|run| every_flag(run, &mut room.borrow_mut()));
     let mut features = features();
     run.each_day(DAYS, &mut features, |random, features| {
         one_day(random, features, &mut room.borrow_mut())
     });
+}
+
+/// Every byte as the greedy flag of a search.
+fn every_flag(run: &mut Run, room: &mut Room) {
+    for flag in 0..=u8::MAX {
+        for (levels, range) in [(0, 0), (2, 5)] {
+            let call = greedy_told(flag, levels, range);
+            run.case(|random| judge(random, room, &call).map(|_| ()));
+        }
+    }
 }
 
 /// A search of nothing but zeros that asks, with this byte for its greedy flag,
