@@ -1,7 +1,7 @@
 //! A report as one JSON object (RFC 8259).
 use crate::day::Day;
 use crate::entity::Entity::{self, Choice, Chooser, Slot};
-use crate::model::Model;
+use crate::model::{Edge, Model};
 use crate::refusals::Refusal;
 use crate::report::{FirstAsk, Origin, Plan, Report, Roster, Score, SlotList, Step, Stop, WRONG};
 use crate::source::Fault;
@@ -132,7 +132,7 @@ fn of_model(day: &Day, model: &Model, has_model: bool) -> Vec<(&'static str, Jso
         ("blocked", blocked),
     ];
     if has_model {
-        let edge = |edge: &crate::model::Edge| {
+        let edge = |edge: &Edge| {
             Object(vec![
                 ("from", number(edge.from)),
                 ("to", number(edge.to)),

@@ -121,7 +121,8 @@ impl Printer<'_> {
             lines.push(match &plan.origin {
                 Origin::Seats => "plan, by its seats".to_owned(),
                 Origin::Values(lists) => {
-                    format!("plan, by values in the order of these lists: {}", self.lists(lists))
+                    let lists = lists.iter().map(list_words).collect::<Vec<_>>().join("; ");
+                    format!("plan, by values in the order of these lists: {lists}")
                 }
             });
             lines.extend(self.rosters(plan));
@@ -145,11 +146,6 @@ impl Printer<'_> {
         let bad = self.report.steps.iter().filter(|step| is_bad(step));
         let bad = bad.map(|_| "warning: this plan is not feasible".to_owned());
         self.report.refused_moves().map(warning).chain(bad).collect()
-    }
-
-    fn lists(&self, lists: &[SlotList]) -> String {
-        let list = |own: &SlotList| format!("slot {}:{}", own.slot, spaced(&own.choices));
-        lists.iter().map(list).collect::<Vec<_>>().join("; ")
     }
 
     fn rosters(&self, plan: &Plan) -> Vec<String> {
@@ -191,6 +187,10 @@ impl Printer<'_> {
         });
         [self.full(Chooser, chooser)].into_iter().chain(lines).collect()
     }
+}
+
+fn list_words(own: &SlotList) -> String {
+    format!("slot {}:{}", own.slot, spaced(&own.choices))
 }
 
 fn edge_words(place: usize, edge: &Edge) -> String {

@@ -34,6 +34,17 @@ fn the_sample_is_printed_whole() {
     assert_eq!((&*ran.out, ran.code), (SAMPLE_TEXT, Some(0)));
 }
 
+/// The file and what is printed stand in README.md as they are.
+#[test]
+fn the_readme_shows_the_sample() {
+    let readme = include_str!("../../../README.md");
+    let is_said = |line: &&str| !line.is_empty() && !line.starts_with('#');
+    let indented = |line: &str| format!("    {line}\n");
+    let file = SAMPLE.lines().filter(is_said).map(indented).collect::<String>();
+    let text = SAMPLE_TEXT.lines().map(indented).collect::<String>();
+    assert!(readme.contains(&file) && readme.contains(&text));
+}
+
 /// Seats need no order, and give what their values give.
 #[test]
 fn seats_are_values() {
