@@ -55,7 +55,7 @@ impl Failure {
     }
 
     /// The input, the answers, and the day file or why there is none.
-    pub fn told(&self, file: Result<String, String>) -> String {
+    pub fn report(&self, file: Result<String, String>) -> String {
         let mut lines = Vec::new();
         if !self.input.is_empty() {
             lines.push(format!("  input: {}", front(&folded(&self.input))));

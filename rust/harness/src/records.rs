@@ -17,7 +17,7 @@ use crate::recording::{Entry, Keep, LAST, Note, taken};
 use crate::run::{Run, Settings};
 use crate::scores::{INFINITE, NAN, SPECIAL, random_finite, random_score, score_near};
 use crate::suites::negation::{EXTRAS, KINDS, TARGETS};
-use crate::suites::{model, roster, sample, search, slips, state, verdict};
+use crate::suites::{model, roster, sample, search, state, targeted, verdict};
 use std::collections::BTreeSet;
 
 /// Where the file is, whatever folder the harness runs in.
@@ -34,7 +34,7 @@ const FINITES: usize = 60;
 /// A suite by its name and the function that makes its cases.
 type Recorded = (&'static str, fn(&mut Run));
 /// The suites of which every comparison is recorded.
-const TARGETED: [Recorded; 2] = [("sample", sample::run), ("slips", slips::run)];
+const TARGETED: [Recorded; 2] = [("sample", sample::run), ("targeted", targeted::run)];
 /// The suites over days, done and damaged, and how many of theirs are run.
 const OF_DAYS: [Recorded; 11] = [
     ("state", state::run),
@@ -136,7 +136,7 @@ fn put_is_finite(score: Pair, notes: &mut Vec<Note>) {
 }
 
 /// NaN majors of every sort, which totalOrder would tell apart; both zeros; scores
-/// that are not finite; and the circle of document 01.
+/// that are not finite; and the circle of SPEC 11.
 fn mistakable_scores() -> Vec<Pair> {
     let majors = [NAN, NAN + 1, 0xFFC0_0000, 0xFFFF_FFFF, 0x7F80_0001, 0xFF80_0001];
     let with_minors = |bits: u32| [0.0, 2.0].map(|minor| (f32::from_bits(bits), minor));

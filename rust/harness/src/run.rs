@@ -106,7 +106,7 @@ impl<'a> Run<'a> {
             let mut random = self.random(case);
             let (outcome, file) = day_file::noted(|| judged(|| test(&mut random)));
             if let Err(failure) = outcome {
-                self.fails(Some(case), |_| failure.told(text(file.as_ref())));
+                self.fails(Some(case), |_| failure.report(text(file.as_ref())));
             }
         }
     }
@@ -121,7 +121,7 @@ impl<'a> Run<'a> {
                 if is_made_smaller {
                     return made_smaller(&mut test, random, &failure);
                 }
-                failure.told(Err("it is made when the case is run again alone".to_owned()))
+                failure.report(Err("it is made when the case is run again alone".to_owned()))
             });
         }
     }
@@ -152,11 +152,11 @@ impl<'a> Run<'a> {
         self.made += 1;
         self.fixed += 1;
         if let Err(failure) = judged(test) {
-            self.fails(None, |_| failure.told(text(None)));
+            self.fails(None, |_| failure.report(text(None)));
         }
     }
 
-    /// Counts and prints a failed case. What is to be said of it is told whether
+    /// Counts and prints a failed case. What is to be said of it depends on whether
     /// the case is to be made smaller.
     fn fails(&mut self, case: Option<u64>, say: impl FnOnce(bool) -> String) {
         self.failed += 1;
@@ -167,7 +167,7 @@ impl<'a> Run<'a> {
         let suite = self.suite;
         let name = case.map_or("over all cases".to_owned(), |case| format!("case {case}"));
         // A case past the usual ones needs the count that it was found with.
-        let told = [
+        let options = [
             case.map(|case| format!(" --case {case}")),
             count.map(|count| format!(" --count {count}")),
         ];
@@ -176,7 +176,7 @@ impl<'a> Run<'a> {
         println!(
             "  again: cargo run --release --offline --manifest-path rust/Cargo.toml \
              --package harness --bin differential -- --only {suite} --seed {seed}{}",
-            told.into_iter().flatten().collect::<String>()
+            options.into_iter().flatten().collect::<String>()
         );
     }
 
@@ -196,13 +196,13 @@ fn judged(test: impl FnOnce() -> Outcome) -> Outcome {
 /// What there is to say of a smaller case that fails too.
 fn made_smaller(test: &mut shrink::Test, random: Random, failure: &Failure) -> String {
     let Some(failed) = shrink::failed(test, random.noting()) else {
-        return failure.told(Err("the case does not fail when it is run again".to_owned()));
+        return failure.report(Err("the case does not fail when it is run again".to_owned()));
     };
     let before = drawn(&failed.draws);
     let Smaller { failed, tries } = shrink::smallest(test, failed);
     let after = drawn(&failed.draws);
-    let told = failed.failure.told(text(failed.file.as_ref()));
-    format!("  made smaller in {tries} runs: of {before} draws {after} are left\n{told}")
+    let report = failed.failure.report(text(failed.file.as_ref()));
+    format!("  made smaller in {tries} runs: of {before} draws {after} are left\n{report}")
 }
 
 /// How many draws are not the simplest.

@@ -107,7 +107,7 @@ fn print_report(options: &Options, name: &str, day: &Day) -> Printed {
         Ok(view) => view,
         Err(reason) => return wrong(vec![format!("{name}: {reason}")]),
     };
-    let report = run::run(day, options.goes_on);
+    let report = run::run(day, options.keeps_going);
     let text = if options.is_json {
         json::of_report(day, &report, options.has_model)
     } else {

@@ -9,7 +9,7 @@ pub const USAGE: &str = include_str!("../usage.txt");
 pub struct Options {
     /// The file, or '-' for standard input.
     pub file: OsString,
-    pub goes_on: bool,
+    pub keeps_going: bool,
     /// The number or name of a choice.
     pub roster: Option<String>,
     /// The number or name of a chooser.
@@ -35,7 +35,7 @@ impl Request {
             match word.to_str() {
                 Some("--help" | "-h") => return Ok(Self::Help),
                 Some("--version") => return Ok(Self::Version),
-                Some("--keep-going") => options.goes_on = true,
+                Some("--keep-going") => options.keeps_going = true,
                 Some("--model") => options.has_model = true,
                 Some("--json") => options.is_json = true,
                 Some("--roster") => options.roster = Some(value("--roster", &mut words)?),

@@ -21,19 +21,21 @@ const COMPLETE: u32 = 2;
 
 /// Takes the day as far as it goes. A refused move ends the run, unless it is to
 /// go on.
-pub fn run(day: &Day, goes_on: bool) -> Report {
+pub fn run(day: &Day, keeps_going: bool) -> Report {
     let mut steps = Vec::new();
-    let stop = run_all(day, goes_on, &mut steps).err();
+    let stop = run_all(day, keeps_going, &mut steps).err();
     Report { steps, stop }
 }
 
-fn run_all(day: &Day, goes_on: bool, steps: &mut Vec<Step>) -> Result<(), Stop> {
+fn run_all(day: &Day, keeps_going: bool, steps: &mut Vec<Step>) -> Result<(), Stop> {
     let mut scheduled = Scheduled::build(day)?;
     steps.push(Step::Built(scheduled.slot_lists()?));
     for own in &day.moves {
         match scheduled.update(own) {
             Ok(step) => steps.push(step),
-            Err(refusal) if goes_on => steps.push(Step::MoveRefused { own: own.value, refusal }),
+            Err(refusal) if keeps_going => {
+                steps.push(Step::MoveRefused { own: own.value, refusal })
+            }
             Err(refusal) => return Err(refusal.into()),
         }
     }

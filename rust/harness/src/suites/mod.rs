@@ -17,8 +17,8 @@ mod refused;
 pub mod roster;
 pub mod sample;
 pub mod search;
-pub mod slips;
 pub mod state;
+pub mod targeted;
 pub mod verdict;
 mod wild;
 
@@ -59,7 +59,7 @@ pub const SUITES: &[Suite] = &[
     random("best", best::run, Class::SingleCalls),
     fixed("constants", constants::run, Class::Others),
     fixed("sample", sample::run, Class::Others),
-    fixed("slips", slips::run, Class::Others),
+    fixed("targeted", targeted::run, Class::Others),
     fixed("records", records::run, Class::Others),
     random("exact", exact::run, Class::Days),
     random("reading", reading::run, Class::Days),

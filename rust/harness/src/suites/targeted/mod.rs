@@ -1,5 +1,5 @@
-//! Targeted cases: the slips that document 01 says this trade invites, and corners
-//! that random days seldom meet. Each is recorded.
+//! Targeted cases: mistakes that are easily made with these rules, and corners that
+//! random days seldom meet. Each is recorded.
 mod limits;
 mod models;
 mod refusals;
