@@ -1,9 +1,12 @@
 //! What the suites over damaged input share: the damage, the number that decides
 //! and what a run of them must have shown.
+use crate::bridge;
 use crate::damage::{Damage, Input};
+use crate::day::{Day, random_day, random_size};
 use crate::features::Features;
 use crate::random::Random;
 use crate::run::{Days, Outcome, Run};
+use oracle::Problem;
 
 /// A call and the numbers that it is to give, 0 first.
 pub type Numbers = (&'static str, &'static [u32]);
@@ -36,6 +39,29 @@ pub fn each_day(
 ) {
     let mut features = features(damages, calls);
     run.each_day(days, &mut features, |random, features| one_day(random, damages, features));
+}
+
+/// Damaged inputs on each random day.
+const TRIES: usize = 5;
+
+/// A random day with inputs that are made sound and then damaged, each for all calls
+/// of a suite. What the Rust reads of the day is as it was where a call is done.
+pub fn one_day(
+    random: &mut Random,
+    damages: &[&Damage],
+    features: &mut Features,
+    sound: fn(&mut Random, &Day) -> Input,
+    all_calls: fn(&mut Random, &mut Features, &Problem, &Input) -> Outcome,
+) -> Outcome {
+    let size = random_size(random);
+    let day = random_day(random, size);
+    let problem = bridge::problem(&day);
+    for _ in 0..TRIES {
+        let sound = sound(random, &day);
+        let input = damaged(random, damages, features, sound);
+        all_calls(random, features, &problem, &input)?;
+    }
+    Ok(())
 }
 
 /// The input with one or two damages. What should make no difference is done

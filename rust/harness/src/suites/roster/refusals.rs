@@ -2,22 +2,18 @@
 //! gives, zeros beside it, and no byte changed. What the damage leaves sound is
 //! compared with the Rust.
 use super::calls::{Call, Calls};
-use crate::bridge;
 use crate::damage::{self, Damage, Input, random_asked};
-use crate::day::{Day, random_day, random_size};
+use crate::day::Day;
 use crate::features::Features;
 use crate::plan::{PLAN, rows, wild_plan};
 use crate::random::Random;
 use crate::reading::{Asked, Buffer, Handed, Layout, faults};
 use crate::run::{Days, Outcome, Run};
-use crate::suites::refused::{self, Numbers, damaged, first};
+use crate::suites::refused::{self, Numbers, first};
 use oracle::Problem;
 use oracle::calls::Seated;
 
 const DAYS: Days = Days { usual: 20_000, for_features: 5_000 };
-
-/// Damaged inputs on each day.
-const TRIES: usize = 5;
 
 /// The numbers by which each call refuses. Its done calls are looked for too.
 pub const NUMBERS: [Numbers; 4] = [
@@ -32,16 +28,7 @@ pub fn run(run: &mut Run) {
 }
 
 fn one_day(random: &mut Random, damages: &[&Damage], features: &mut Features) -> Outcome {
-    let size = random_size(random);
-    let day = random_day(random, size);
-    // The Rust reads the sizes alone, which are as they were where a call is done.
-    let problem = bridge::problem(&day);
-    for _ in 0..TRIES {
-        let sound = input(random, &day);
-        let input = damaged(random, damages, features, sound);
-        all_calls(random, features, &problem, &input)?;
-    }
-    Ok(())
+    refused::one_day(random, damages, features, input, all_calls)
 }
 
 /// All calls on an input.
