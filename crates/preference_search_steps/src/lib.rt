@@ -186,7 +186,8 @@ pub fn ask_again(
 // What is remembered: optimal, without an ask and without a level.
 pub fn recall(seats: usize, greedy: bool, entries: [u8; 32], cached: &[u8]) -> SearchAnswer
     requires { ⌜ IsCached (now cached) × (seats ≤ 512) ⌝ }
-    ensures { λ r. ⌜ r ≡ searchAnswer 0 0 (searchWith false greedy 0 0 0 0 entries (foundAt seats 0 (cachedIn (old cached) .plan) true) (cachedIn (old cached))) ⌝ }
+    ensures { λ r. ⌜ r ≡ searchAnswer 0 0 (searchWith false greedy 0 0 0 0 entries
+        (foundAt seats 0 (cachedIn (old cached) .plan) true) (cachedIn (old cached))) ⌝ }
 {
     let known = found_at(seats, 0, &cached[34..546], true);
     hand_back(
