@@ -1,4 +1,6 @@
 // assignment_solver.rs, solve_until: the preference search, handed back after each ask.
+#![tactic(auto)]
+
 mod beginning;
 mod telling;
 

@@ -1,4 +1,6 @@
 // assignment_solver.rs: the edges that a schedule blocks, constraint by constraint.
+#![tactic(auto)]
+
 ghost use Rattle.std.specs.Prelude.{◌≡◌, ◌<◌, length};
 ghost use Rattle.counting.specs.Lent.{old, new};
 ghost use Rattle.constraint.specs.Kind.{kind_number};

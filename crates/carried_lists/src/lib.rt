@@ -1,5 +1,7 @@
 // assignment_solver.rs: the walk that carries lists, lengths and covered counts from one schedule to
 // the next. A fresh build is the walk from the schedule in which no choice has a slot.
+#![tactic(auto)]
+
 ghost use Rattle.std.specs.Prelude.{length};
 ghost use Rattle.counting.specs.Lent.{old, new};
 ghost use Rattle.slot_lists.specs.WalkLaws.{Departs, Departed, Arrives, Arrived, Visits, Visited, Carries, ListsCarried};

@@ -1,4 +1,6 @@
 // constraint.rs: the kinds of constraints, their numbers, and negation.
+#![tactic(auto)]
+
 pub mod numbers;
 
 ghost use Rattle.std.specs.Prelude.{◌≡◌};
@@ -9,7 +11,7 @@ ghost use Rattle.constraint.specs.Negation.{negated_kind, negation_refused, nega
 // The least number of an assignment constraint.
 pub const CONSTRAINT_TYPE_DISCRIMINATION_LIMIT: u32 = 65536;
 
-#[derive(Drop)]
+#[derive(Clone, Copy)]
 pub enum ConstraintType {
     Invalid,
     ChoiceIsInSlot,
@@ -29,7 +31,7 @@ pub enum ConstraintType {
     ChoiceNotContainsChooser,
 }
 
-#[derive(Drop)]
+#[derive(Clone, Copy)]
 pub enum SlotSizeLimitOp {
     Eq,
     Gt,
@@ -39,7 +41,7 @@ pub enum SlotSizeLimitOp {
     Lt,
 }
 
-#[derive(Drop)]
+#[derive(Clone, Copy)]
 pub enum ConstraintTarget {
     None,
     Slot(usize),
@@ -48,14 +50,14 @@ pub enum ConstraintTarget {
     Limit(u32),
 }
 
-#[derive(Drop)]
+#[derive(Clone, Copy)]
 pub enum ConstraintExtra {
     None,
     Offset(i32),
     SlotSizeLimitOp(SlotSizeLimitOp),
 }
 
-#[derive(Drop)]
+#[derive(Clone, Copy)]
 pub struct Constraint {
     pub kind: ConstraintType,
     pub left: usize,
@@ -64,7 +66,7 @@ pub struct Constraint {
 }
 
 // The negation of a constraint, or 9 and an Invalid constraint of zeros.
-#[derive(Drop)]
+#[derive(Clone, Copy)]
 pub struct NegationAnswer {
     pub number: u32,
     pub constraint: Constraint,

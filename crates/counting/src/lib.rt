@@ -1,5 +1,7 @@
 // Leaves that several crates share. Signed ones are here, since the rest of the code counts in unsigned
 // numbers.
+#![tactic(auto)]
+
 ghost use Rattle.std.specs.Prelude.{◌≡◌, ◌<◌, min, pos, neg_ℤ, ◌-ℤ◌};
 ghost use Rattle.counting.specs.Ints.{eq_z};
 

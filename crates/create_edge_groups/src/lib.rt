@@ -1,4 +1,6 @@
 // create_edge_groups of assignment_solver.rs: what constraints and dependent groups name, in their order.
+#![tactic(auto)]
+
 mod pairs;
 
 ghost use Rattle.std.specs.Prelude.{◌≤◌, length};

@@ -1,4 +1,6 @@
 // Checks 3 to 10 of a day, and the order of all.
+#![tactic(auto)]
+
 ghost use Rattle.std.specs.Prelude.{◌≡◌, leb};
 ghost use Rattle.counting.specs.Lent.{old};
 ghost use Rattle.input_data.specs.Bytes.{IsDay, day_of};

@@ -1,4 +1,6 @@
 // The plan that edge values decode to.
+#![tactic(auto)]
+
 ghost use Rattle.std.specs.Prelude.{◌≡◌, ◌*◌, ◌<◌, ◌≤◌, length};
 ghost use Rattle.counting.specs.Lent.{old, new};
 ghost use Rattle.counting.specs.Search.{first_to};

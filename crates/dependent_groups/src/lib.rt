@@ -1,5 +1,7 @@
 // create_edge_groups of assignment_solver.rs, a dependent group: for each chooser, the edges to the
 // scheduled members.
+#![tactic(auto)]
+
 ghost use Rattle.std.specs.Prelude.{◌≡◌, ◌+◌, ◌*◌, ◌<◌, ◌≤◌, length};
 ghost use Rattle.counting.specs.Fold.{join_to};
 ghost use Rattle.counting.specs.Lent.{old, new};

@@ -1,5 +1,7 @@
 // create_edge_group_or_block_edges of mip_flow.rs: edges that are named together form a group if all are
 // there; otherwise those that are there are blocked. An edge is there if its number is below n.
+#![tactic(auto)]
+
 ghost use Rattle.std.specs.Prelude.{◌≡◌, [], ◌∷◌, ◌+◌, ◌<◌, ◌≤◌, length};
 ghost use Rattle.counting.specs.Lent.{old, new};
 ghost use Rattle.counting.specs.WrittenLaws.{Put};
@@ -9,7 +11,7 @@ ghost use Rattle.edge_groups.specs.Lent.{Stores, HasRoom};
 ghost use Rattle.edge_groups.specs.Stored.{storing};
 
 // How much of each buffer is used.
-#[derive(Drop)]
+#[derive(Clone, Copy)]
 pub struct Marks {
     pub entries: usize,
     pub groups: usize,

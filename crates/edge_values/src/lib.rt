@@ -1,4 +1,6 @@
 // Checks 14 to 17 of edge values that are proposed from outside.
+#![tactic(auto)]
+
 mod balance;
 mod checks;
 mod number;

@@ -1,1 +1,3 @@
 // Definitions and theorems only: a plan that can be had is feasible.
+#![tactic(auto)]
+

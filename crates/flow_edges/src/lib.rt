@@ -1,5 +1,7 @@
 // assignment_solver.rs, solve_with_limit: the edges of the open seats, by chooser, slot and place in the
 // slot's list, then those of the scheduled choices.
+#![tactic(auto)]
+
 mod edges;
 
 ghost use Rattle.std.specs.Prelude.{ℕ, ◌*◌, ◌<◌, length};

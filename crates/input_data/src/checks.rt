@@ -5,7 +5,7 @@ ghost use Rattle.input_data.specs.Checks.{too_many, first_of};
 use crate::Limits;
 
 // What a call tests beside the day itself; false where it has no such input.
-#[derive(Drop)]
+#[derive(Clone, Copy)]
 pub struct Beside {
     pub bad_lengths: bool,
     pub bad_preferences: bool,

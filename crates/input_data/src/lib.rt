@@ -1,4 +1,6 @@
 // input_data.rs: the day, its limits, the bytes in which it is lent, and what accepted ones satisfy.
+#![tactic(auto)]
+
 mod bytes;
 mod checks;
 mod constraints;
@@ -15,7 +17,7 @@ pub use checks::{Beside, first, too_many};
 pub use decode::{assignment_of, day_of, maxs_of, mins_of};
 
 // How many choosers, choices and slots there may be. Strides and named lengths follow from these.
-#[derive(Drop)]
+#[derive(Clone, Copy)]
 pub struct Limits {
     pub choosers: usize,
     pub choices: usize,
@@ -34,7 +36,7 @@ pub fn full_day() -> Limits
 }
 
 // A day's sizes, and the stride of its slot lists: the limit on choices.
-#[derive(Drop)]
+#[derive(Clone, Copy)]
 pub struct Sizes {
     pub stride: usize,
     pub choosers: usize,
@@ -43,7 +45,7 @@ pub struct Sizes {
 }
 
 // A constraint in numbers, as constraint::Constraint::of takes them.
-#[derive(Drop)]
+#[derive(Clone, Copy)]
 pub struct ConstraintNumbers {
     pub kind: u32,
     pub left: u32,

@@ -1,5 +1,7 @@
 // mip_flow.rs and solve_with_limit of assignment_solver.rs: which seats have an edge, and what an edge is
 // made of.
+#![tactic(auto)]
+
 ghost use Rattle.std.specs.Prelude.{◌≡◌, false, not, ◌&&◌, ◌+◌, ◌-◌, ◌*◌, ◌<◌, ◌≤◌, leb, pos, length, get_or};
 ghost use Rattle.counting.specs.Lent.{old};
 ghost use Rattle.blocks.specs.Blocks.{cell};

@@ -1,4 +1,6 @@
 // mip_flow_static_data.rs: what each node of the flow model supplies. Node numbers are by formula.
+#![tactic(auto)]
+
 ghost use Rattle.std.specs.Prelude.{◌≡◌, ℕ, ◌+◌, ◌*◌, ◌<◌, ◌≤◌, cond, eqb, pos, neg_ℤ, length};
 ghost use Rattle.counting.specs.Fold.{table_to};
 ghost use Rattle.counting.specs.Lent.{old, new};

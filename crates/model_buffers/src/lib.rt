@@ -1,5 +1,7 @@
 // The buffers that a model is written to: check 2 of their lengths and of the tables beside them, and
 // the answer that says how much of them is used.
+#![tactic(auto)]
+
 ghost use Rattle.std.specs.Prelude.{◌≡◌, not, ◌||◌, ◌+◌, eqb};
 ghost use Rattle.input_data.specs.Lengths.{Within};
 ghost use Rattle.model_buffers.specs.Answers.{model_refused, counted_answer};
@@ -8,7 +10,7 @@ ghost use Rattle.model_buffers.specs.Lengths.{short_edges, short_groups, short_b
 use input_data::Limits;
 
 // How long the eight lent buffers of a model are.
-#[derive(Drop)]
+#[derive(Clone, Copy)]
 pub struct Lengths {
     pub supplies: usize,
     pub from: usize,

@@ -1,4 +1,6 @@
 // scoring.rs, Scoring::evaluate of a plan that was accepted: the score, and what the call tests of its tables.
+#![tactic(auto)]
+
 ghost use Rattle.std.specs.Prelude.{◌≡◌, not, ◌&&◌, ◌||◌, ◌+◌, ◌≤◌, eqb, length};
 ghost use Rattle.counting.specs.Lent.{old};
 ghost use Rattle.input_data.specs.Bytes.{IsDay, day_of};

@@ -1,5 +1,7 @@
 // assignment_solver.rs, solve_until: the preference search. Its types, the bytes in which it is lent, and the
 // leaves of its steps.
+#![tactic(auto)]
+
 mod bytes;
 mod memory;
 mod steps;
@@ -13,7 +15,7 @@ pub use steps::{
 };
 
 // What a solver answers to an ask. The plan of a feasible one stands beside it.
-#[derive(Drop)]
+#[derive(Clone, Copy)]
 pub enum LimitSolveResult {
     Feasible,
     Infeasible,

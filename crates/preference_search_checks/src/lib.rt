@@ -1,4 +1,6 @@
 // The numbers of begin and tell.
+#![tactic(auto)]
+
 ghost use Rattle.std.specs.Prelude.{◌&&◌, not, ◌≡◌, eqb};
 ghost use Rattle.counting.specs.Lent.{old};
 ghost use Rattle.input_data.specs.Bytes.{IsDay, day_of};

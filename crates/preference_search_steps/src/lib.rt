@@ -1,4 +1,6 @@
 // The steps of a search: the next ask, the end, what is remembered, the answer from memory.
+#![tactic(auto)]
+
 ghost use Rattle.std.specs.Prelude.{false, true, ◌≡◌, ◌<◌, ◌≤◌, length};
 ghost use Rattle.counting.specs.Lent.{old};
 ghost use Rattle.preference_search.specs.Bytes.{IsCached, IsSearch, cached_in, search_in};

@@ -1,4 +1,6 @@
 // assignment.rs, rosters: the choosers of a choice, the choices of a chooser.
+#![tactic(auto)]
+
 ghost use Rattle.std.specs.Prelude.{◌≡◌, [], ◌∷◌, ◌+◌, ◌≤◌, length};
 ghost use Rattle.counting.specs.Fold.{only_if};
 ghost use Rattle.counting.specs.Lent.{old, new};
@@ -13,7 +15,7 @@ use input_data::Limits;
 
 // How many entries the roster has; 0 where refused.
 #[repr(C)]
-#[derive(Drop)]
+#[derive(Clone, Copy)]
 pub struct RosterAnswer {
     pub number: u32,
     pub length: usize,

@@ -1,5 +1,7 @@
 // The sample day of SPEC 13: each row is computed by the library's calls, on lent bytes. What it
 // prints is compared with the file stdout.
+#![tactic(auto)]
+
 use layouts::{day_of, schedule_of};
 
 mod layouts;

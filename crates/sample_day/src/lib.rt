@@ -1,1 +1,3 @@
 // Definitions and theorems only: the sample day (SPEC 13), over what the calls give and leave.
+#![tactic(auto)]
+

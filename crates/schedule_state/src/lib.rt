@@ -1,4 +1,6 @@
 // assignment_solver.rs: the state that is carried from schedule to schedule, and check 12.
+#![tactic(auto)]
+
 mod bytes;
 mod checks;
 mod listing;

@@ -5,7 +5,7 @@ ghost use Rattle.schedule_state.specs.Calls.{PartOf};
 
 // A slot's list: the number, where the list starts in the lent buffer, and its length; zeros where the call is refused.
 #[repr(C)]
-#[derive(Drop)]
+#[derive(Clone, Copy)]
 pub struct SlotListAnswer {
     pub number: u32,
     pub start: usize,

@@ -1,4 +1,6 @@
 // assignment_solver.rs: the calls that build a schedule state, update it, and hand back a slot's list.
+#![tactic(auto)]
+
 mod listing;
 mod state;
 

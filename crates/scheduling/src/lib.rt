@@ -1,4 +1,6 @@
 // scheduling.rs: a schedule, its slots, and check 11.
+#![tactic(auto)]
+
 ghost use Rattle.std.specs.Prelude.{true, ◌&&◌, ◌≡◌, length};
 ghost use Rattle.counting.specs.Lent.{old};
 ghost use Rattle.scheduling.specs.Schedule.{slot_in, bad_entry, bad_slots, kept};
@@ -14,7 +16,7 @@ pub struct Scheduling {
 }
 
 // What an entry says: the Rust's Option.
-#[derive(Drop)]
+#[derive(Clone, Copy)]
 pub enum SlotOf {
     None,
     Slot(usize),

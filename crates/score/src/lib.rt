@@ -1,4 +1,6 @@
 // score.rs: scores, their order, and the best of a list.
+#![tactic(auto)]
+
 ghost use Rattle.std.specs.Prelude.{◌≡◌, cond, ◌+◌, ◌*◌, ◌<◌, ◌≤◌, ◌-◌, length};
 ghost use Rattle.std.specs.Float.{nan, binary32};
 ghost use Rattle.std.specs.Float.Ieee.{is_nan, to_bits};
@@ -11,13 +13,13 @@ ghost use Rattle.score.specs.Best.{best_refused, best_to};
 ghost use Rattle.score.specs.Listed.{score_at, scores_in, best_in};
 
 // A score: less is better.
-#[derive(Drop)]
+#[derive(Clone, Copy)]
 pub struct Score {
     pub major: f32,
     pub minor: f32,
 }
 
-#[derive(Drop)]
+#[derive(Clone, Copy)]
 pub enum Ordering {
     Less,
     Equal,
@@ -25,20 +27,20 @@ pub enum Ordering {
 }
 
 // A score and its place in a list.
-#[derive(Drop)]
+#[derive(Clone, Copy)]
 pub struct Ranked {
     pub position: usize,
     pub score: Score,
 }
 
 // The best of a list; an empty list has none.
-#[derive(Drop)]
+#[derive(Clone, Copy)]
 pub enum BestScore {
     None,
     At(Ranked),
 }
 
-#[derive(Drop)]
+#[derive(Clone, Copy)]
 pub struct BestAnswer {
     pub number: u32,
     pub best: BestScore,

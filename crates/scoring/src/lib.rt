@@ -1,5 +1,7 @@
 // scoring.rs and solution.rs, with Scheduling::is_feasible of scheduling.rs: the calls that give the verdict on a schedule
 // and on a plan, and the score.
+#![tactic(auto)]
+
 mod evaluating;
 mod numbers;
 mod plan;
@@ -14,14 +16,14 @@ pub use solution::Solution;
 
 // The number of the answer, and whether the test holds; no where refused.
 #[repr(C)]
-#[derive(Drop)]
+#[derive(Clone, Copy)]
 pub struct VerdictAnswer {
     pub number: u32,
     pub holds: bool,
 }
 
 // The number of the answer, and the score, or zeros where refused.
-#[derive(Drop)]
+#[derive(Clone, Copy)]
 pub struct ScoreAnswer {
     pub number: u32,
     pub score: Score,

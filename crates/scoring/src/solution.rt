@@ -2,7 +2,7 @@
 ghost use Rattle.std.specs.Prelude.{◌≡◌};
 ghost use Rattle.scoring.specs.Calls.{has_schedule, has_plan};
 
-#[derive(Drop)]
+#[derive(Clone, Copy)]
 pub enum Solution {
     Invalid,
     Scheduling,

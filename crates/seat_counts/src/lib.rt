@@ -1,4 +1,6 @@
 // scoring.rs: the seats of a plan and the preferences that it uses.
+#![tactic(auto)]
+
 mod plan;
 mod preferences;
 

@@ -7,7 +7,7 @@ ghost use Rattle.seating.specs.Constraints.{negation_numbers, refused_numbers, n
 use constraint::{ConstraintType, numbers};
 
 #[repr(C)]
-#[derive(Drop)]
+#[derive(Clone, Copy)]
 pub struct NegationNumbers {
     pub number: u32,
     pub kind: u32,

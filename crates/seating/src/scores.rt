@@ -9,14 +9,14 @@ ghost use Rattle.seating.specs.ScoresLaws.{Near};
 use score::{BestAnswer, BestScore, Score};
 
 #[repr(C)]
-#[derive(Drop)]
+#[derive(Clone, Copy)]
 pub struct ScoreBits {
     pub major: u32,
     pub minor: u32,
 }
 
 #[repr(C)]
-#[derive(Drop)]
+#[derive(Clone, Copy)]
 pub struct BestBits {
     pub number: u32,
     pub found: u32,

@@ -10,7 +10,7 @@ use crate::scores::{ScoreBits, bits_of};
 use scoring::{Solution, VerdictAnswer};
 
 #[repr(C)]
-#[derive(Drop)]
+#[derive(Clone, Copy)]
 pub struct ScoreBitsAnswer {
     pub number: u32,
     pub score: ScoreBits,

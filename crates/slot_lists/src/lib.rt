@@ -1,5 +1,7 @@
 // assignment_solver.rs: a slot's list in its own part of the lent buffer, the sums of a slot's choices,
 // and whether the lists hold a schedule.
+#![tactic(auto)]
+
 ghost use Rattle.std.specs.Prelude.{◌≡◌, ◌+◌, ◌*◌, ◌<◌, ◌≤◌, length, set};
 ghost use Rattle.counting.specs.Fold.{any_to};
 ghost use Rattle.counting.specs.Lent.{old, new};

@@ -1,5 +1,7 @@
 // assignment_solver.rs, solve_with_limit: the flow model of a state at a preference limit, and the
 // check and decoding of edge values that are proposed from outside.
+#![tactic(auto)]
+
 mod model;
 mod values;
 
