@@ -4,7 +4,7 @@
 ghost use Rattle.std.specs.Prelude.{◌≡◌, cond, ◌+◌, ◌*◌, ◌<◌, ◌≤◌, ◌-◌, length};
 ghost use Rattle.std.specs.Float.{nan, binary32};
 ghost use Rattle.std.specs.Float.Ieee.{is_nan, to_bits};
-ghost use Rattle.std.specs.Float.Ieee.Scale as Scale;
+ghost use Rattle.std.specs.Float.Ieee.Scale.{finite};
 ghost use Rattle.counting.specs.Lent.{old};
 ghost use Rattle.score.specs.TotalOrder.{neg_zero, pos_zero};
 ghost use Rattle.score.specs.Order.{infinite_twice, finite_score, score_order, order_number, is_less};
@@ -60,7 +60,7 @@ fn is_nan(x: f32) -> bool
 }
 
 fn finite(x: f32) -> bool
-    ensures { result ≡ Scale.finite x }
+    ensures { result ≡ finite x }
 {
     (x < 1.0 / 0.0) & (-1.0 / 0.0 < x)
 }

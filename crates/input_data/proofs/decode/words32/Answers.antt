@@ -1,0 +1,12 @@
+use Rattle.std.proofs.Common.{refl, ◌-◌, arith}
+use Rattle.counting.specs.Lists.{filled_none, filled_more, filled_all}
+use Rattle.input_data.proofs.decode.words32.Goals as goal
+
+pub loop-i-preserved : goal.loop-i-preserved
+loop-i-preserved c = (omega arith, filled_more (omega arith) c.word.ensures c.loop-i.invariant.1)
+
+pub returns : goal.returns
+returns c = filled_all (omega arith) c.loop-i.invariant.1
+
+pub loop-i-init : goal.loop-i-init
+loop-i-init c = (omega arith, filled_none _ _ _ refl)
