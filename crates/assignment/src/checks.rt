@@ -1,6 +1,5 @@
 // Check 13, and the number of a call that is handed a plan.
 ghost use Rattle.std.specs.Prelude.{◌≡◌, ◌≤◌, length, leb, eqb, true, ◌||◌, ◌&&◌};
-ghost use Rattle.counting.specs.Lent.{old};
 ghost use Rattle.input_data.specs.Bytes.{IsDay, day_of};
 ghost use Rattle.input_data.specs.Lengths.{Within};
 ghost use Rattle.scheduling.specs.Schedule.{entry_at};
@@ -13,7 +12,7 @@ use input_data::{Beside, Limits};
 // 13, without a schedule. No early exit, so that the walk is quick.
 pub fn bad_plan(choices: usize, seats: usize, plan: &[u8]) -> bool
     requires { seats ≤ length plan.now }
-    ensures { result ≡ bad_plan choices seats (old plan) }
+    ensures { result ≡ bad_plan choices seats plan.now }
 {
     let mut bad = false;
     let mut i = 0;
@@ -27,7 +26,7 @@ pub fn bad_plan(choices: usize, seats: usize, plan: &[u8]) -> bool
 // Whether an entry is no choice, or one without a slot.
 fn is_unseated(choices: usize, entries: &[u8], choice: u8) -> bool
     requires { (choices ≤ 32) × (length entries.now ≡ 32) }
-    ensures { result ≡ (leb choices choice || eqb (entry_at (old entries) choice) 0) }
+    ensures { result ≡ (leb choices choice || eqb (entry_at entries.now choice) 0) }
 {
     let k = choice as usize;
     if k < choices {
@@ -39,7 +38,7 @@ fn is_unseated(choices: usize, entries: &[u8], choice: u8) -> bool
 // 13, beside a schedule.
 pub fn bad_plan_for(choices: usize, seats: usize, entries: &[u8], plan: &[u8]) -> bool
     requires { (choices ≤ 32) × (length entries.now ≡ 32) × (seats ≤ length plan.now) }
-    ensures { result ≡ bad_plan_for choices seats (old entries) (old plan) }
+    ensures { result ≡ bad_plan_for choices seats entries.now plan.now }
 {
     let mut bad = false;
     let mut i = 0;
@@ -53,7 +52,7 @@ pub fn bad_plan_for(choices: usize, seats: usize, entries: &[u8], plan: &[u8]) -
 // 13 of a plan that is there.
 pub fn bad_if(there: bool, choices: usize, seats: usize, entries: &[u8], plan: &[u8]) -> bool
     requires { there ≡ true → (choices ≤ 32) × (length entries.now ≡ 32) × (seats ≤ length plan.now) }
-    ensures { result ≡ (there && bad_plan_for choices seats (old entries) (old plan)) }
+    ensures { result ≡ (there && bad_plan_for choices seats entries.now plan.now) }
 {
     if there {
         return bad_plan_for(choices, seats, entries, plan);
@@ -64,7 +63,7 @@ pub fn bad_if(there: bool, choices: usize, seats: usize, entries: &[u8], plan: &
 // The plan as it is handed back: 0 past the last seat.
 pub fn kept_plan(seats: usize, plan: &[u8]) -> [u8; 512]
     requires { seats ≤ length plan.now }
-    ensures { result ≡ kept_plan seats (old plan) }
+    ensures { result ≡ kept_plan seats plan.now }
 {
     let n = at_most(512, seats);
     let mut out = [0u8; 512];
@@ -80,7 +79,7 @@ pub fn kept_plan(seats: usize, plan: &[u8]) -> [u8; 512]
 // is formed.
 pub fn plan_number(limits: Limits, day: &[u8], plan: &[u8], short: bool, asked: bool) -> u32
     requires { Within limits × IsDay day.now }
-    ensures { result ≡ plan_number limits (day_of (old day)) (old plan) short asked }
+    ensures { result ≡ plan_number limits (day_of day.now) plan.now short asked }
 {
     let beside = Beside {
         bad_lengths: (plan.len() != limits.choosers * limits.slots) | short,

@@ -1,7 +1,6 @@
 // A chooser and a choice, a chooser and a slot.
 ghost use Rattle.std.specs.Prelude.{◌≡◌, ◌+◌, ◌≤◌, length};
 ghost use Rattle.counting.specs.Fold.{any_to};
-ghost use Rattle.counting.specs.Lent.{old};
 ghost use Rattle.input_data.specs.Lengths.{Within, full_day};
 ghost use Rattle.assignment.specs.Plan.{is_seat};
 ghost use Rattle.assignment.specs.Calls.{in_choice, in_choice_lent, choice, choice_lent};
@@ -13,7 +12,7 @@ use input_data::Limits;
 // Whether some seat of a row is the choice.
 pub fn has_seat(slots: usize, plan: &[u8], base: usize, choice: usize) -> bool
     requires { base + slots ≤ length plan.now }
-    ensures { result ≡ any_to slots (is_seat (old plan) base choice) }
+    ensures { result ≡ any_to slots (is_seat plan.now base choice) }
 {
     let mut found = false;
     let mut s = 0;
@@ -41,7 +40,7 @@ fn in_choice_within(
     choice: usize,
 ) -> InChoiceAnswer
     requires { Within limits }
-    ensures { result ≡ in_choice_lent limits (old day) (old plan) chooser choice }
+    ensures { result ≡ in_choice_lent limits day.now plan.now chooser choice }
 {
     if day.len() != 2044 {
         return in_choice(2, false);
@@ -57,7 +56,7 @@ fn in_choice_within(
 
 // Whether the chooser has the choice in some slot.
 pub fn is_in_choice(day: &[u8], plan: &[u8], chooser: usize, choice: usize) -> InChoiceAnswer
-    ensures { result ≡ in_choice_lent full_day (old day) (old plan) chooser choice }
+    ensures { result ≡ in_choice_lent full_day day.now plan.now chooser choice }
 {
     in_choice_within(input_data::full_day(), day, plan, chooser, choice)
 }
@@ -79,7 +78,7 @@ fn choice_within(
     slot: usize,
 ) -> ChoiceAnswer
     requires { Within limits }
-    ensures { result ≡ choice_lent limits (old day) (old plan) chooser slot }
+    ensures { result ≡ choice_lent limits day.now plan.now chooser slot }
 {
     if day.len() != 2044 {
         return choice_answer(2, 0);
@@ -95,7 +94,7 @@ fn choice_within(
 
 // The choice of a chooser in a slot.
 pub fn choice_of(day: &[u8], plan: &[u8], chooser: usize, slot: usize) -> ChoiceAnswer
-    ensures { result ≡ choice_lent full_day (old day) (old plan) chooser slot }
+    ensures { result ≡ choice_lent full_day day.now plan.now chooser slot }
 {
     choice_within(input_data::full_day(), day, plan, chooser, slot)
 }

@@ -1,6 +1,5 @@
 // A search is begun.
 ghost use Rattle.std.specs.Prelude.{◌≡◌};
-ghost use Rattle.counting.specs.Lent.{old};
 ghost use Rattle.input_data.specs.Bytes.{day_of};
 ghost use Rattle.input_data.specs.Lengths.{Within, full_day};
 ghost use Rattle.scheduling.specs.Handed.{schedule_of};
@@ -24,7 +23,7 @@ fn begun(
     cached: &[u8],
 ) -> SearchAnswer
     requires { Opening day.now schedule.now levels.now cached.now }
-    ensures { result ≡ begun_answer (day_of (old day)) (schedule_of (old schedule)) (old levels) bound greedy (cached_in (old cached)) }
+    ensures { result ≡ begun_answer (day_of day.now) (schedule_of schedule.now) levels.now bound greedy (cached_in cached.now) }
 {
     let choices = input_data::choices(day);
     let entries = scheduling::kept(choices, schedule);
@@ -61,7 +60,7 @@ fn begin_within(
     cached: &[u8],
 ) -> SearchAnswer
     requires { Within limits }
-    ensures { result ≡ begin_lent limits (old day) (old schedule) (old levels) bound greedy (old cached) }
+    ensures { result ≡ begin_lent limits day.now schedule.now levels.now bound greedy cached.now }
 {
     if day.len() != 2044 {
         return refuse(2);
@@ -84,7 +83,7 @@ pub fn begin(
     greedy: bool,
     cached: &[u8],
 ) -> SearchAnswer
-    ensures { result ≡ begin_lent full_day (old day) (old schedule) (old levels) bound greedy (old cached) }
+    ensures { result ≡ begin_lent full_day day.now schedule.now levels.now bound greedy cached.now }
 {
     let limits = input_data::full_day();
     begin_within(limits, day, schedule, levels, bound, greedy, cached)

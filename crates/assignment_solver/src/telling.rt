@@ -1,6 +1,5 @@
 // A search is told the answer to its ask.
 ghost use Rattle.std.specs.Prelude.{◌≡◌};
-ghost use Rattle.counting.specs.Lent.{old};
 ghost use Rattle.input_data.specs.Bytes.{day_of};
 ghost use Rattle.input_data.specs.Lengths.{Within, full_day};
 ghost use Rattle.preference_search.specs.Bytes.{search_in};
@@ -21,7 +20,7 @@ use preference_search_steps::{ask_again, end, go_on, refuse};
 // The answer to a greedy ask ends the search.
 fn tell_greedy(day: &[u8], search: &[u8], res: LimitSolveResult, plan: &[u8]) -> SearchAnswer
     requires { Telling day.now search.now res plan.now }
-    ensures { result ≡ told_greedy (day_of (old day)) (search_in (old search)) (told res (old plan)) }
+    ensures { result ≡ told_greedy (day_of day.now) (search_in search.now) (told res plan.now) }
 {
     let entries = scheduling::kept(input_data::choices(day), &search[24..56]);
     let seats = seats(day);
@@ -39,7 +38,7 @@ fn tell_range(
     plan: &[u8],
 ) -> SearchAnswer
     requires { Telling day.now search.now res plan.now × Ranged (search_in search.now) levels.now }
-    ensures { result ≡ told_range (day_of (old day)) (search_in (old search)) (old levels) (told res (old plan)) }
+    ensures { result ≡ told_range (day_of day.now) (search_in search.now) levels.now (told res plan.now) }
 {
     let entries = scheduling::kept(input_data::choices(day), &search[24..56]);
     let low = word(search, 16);
@@ -70,7 +69,7 @@ fn tell_within(
     plan: &[u8],
 ) -> SearchAnswer
     requires { Within limits }
-    ensures { result ≡ tell_lent limits (old day) (old search) (old levels) (told res (old plan)) }
+    ensures { result ≡ tell_lent limits day.now search.now levels.now (told res plan.now) }
 {
     if day.len() != 2044 {
         return refuse(2);
@@ -93,7 +92,7 @@ pub fn tell(
     res: LimitSolveResult,
     plan: &[u8],
 ) -> SearchAnswer
-    ensures { result ≡ tell_lent full_day (old day) (old search) (old levels) (told res (old plan)) }
+    ensures { result ≡ tell_lent full_day day.now search.now levels.now (told res plan.now) }
 {
     tell_within(input_data::full_day(), day, search, levels, res, plan)
 }

@@ -2,7 +2,6 @@
 #![tactic(auto)]
 
 ghost use Rattle.std.specs.Prelude.{◌≡◌, ◌<◌, length};
-ghost use Rattle.counting.specs.Lent.{old, new};
 ghost use Rattle.constraint.specs.Kind.{kind_number};
 ghost use Rattle.constraint.specs.Cases.{target_operand};
 ghost use Rattle.input_data.specs.Bytes.{IsDay, day_of};
@@ -14,7 +13,7 @@ use constraint::Constraint;
 // The choices beside choice x in its slot are blocked for a chooser. x has a slot.
 fn block_beside(blocks: &mut [bool; 2048], entries: &[u8; 32], chooser: usize, x: usize)
     requires { (chooser < 64) × (x < 32) × (length blocks.old ≡ 2048) }
-    ensures { Blocked (beside_for (old entries) chooser x) (old blocks) (new blocks) }
+    ensures { Blocked (beside_for entries.now chooser x) blocks.old blocks.new }
 {
     let slot = entries[x];
     let base = 32 * chooser;
@@ -29,7 +28,7 @@ fn block_beside(blocks: &mut [bool; 2048], entries: &[u8; 32], chooser: usize, x
 // What one constraint blocks. Only two kinds block anything.
 fn block_by(blocks: &mut [bool; 2048], entries: &[u8; 32], kind: u32, chooser: usize, x: usize)
     requires { Blockable kind chooser x blocks.old }
-    ensures { Blocked (blocks_for kind (old entries) chooser x) (old blocks) (new blocks) }
+    ensures { Blocked (blocks_for kind entries.now chooser x) blocks.old blocks.new }
 {
     if kind == 65537 {
         if entries[x] == 0 {
@@ -47,7 +46,7 @@ fn block_by(blocks: &mut [bool; 2048], entries: &[u8; 32], kind: u32, chooser: u
 
 fn block_constraint(blocks: &mut [bool; 2048], entries: &[u8; 32], c: Constraint)
     requires { Blockable (kind_number c.kind) c.left (target_operand c.right) blocks.old }
-    ensures { Blocked (blocks_by c (old entries)) (old blocks) (new blocks) }
+    ensures { Blocked (blocks_by c entries.now) blocks.old blocks.new }
 {
     let kind = c.kind;
     let right = c.right;
@@ -57,7 +56,7 @@ fn block_constraint(blocks: &mut [bool; 2048], entries: &[u8; 32], c: Constraint
 // The blocks of a schedule, in a table in which nothing is blocked yet: what each assignment constraint blocks.
 pub fn fill_blocks(blocks: &mut [bool; 2048], day: &[u8], entries: &[u8; 32])
     requires { IsDay day.now × Unfilled (day_of day.now).assignment blocks.old }
-    ensures { Blocks (blocked_by (day_of (old day)).assignment (old entries)) (new blocks) }
+    ensures { Blocks (blocked_by (day_of day.now).assignment entries.now) blocks.new }
 {
     let count = input_data::assignment_count(day);
     let mut j = 0;

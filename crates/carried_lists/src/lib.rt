@@ -3,7 +3,6 @@
 #![tactic(auto)]
 
 ghost use Rattle.std.specs.Prelude.{length};
-ghost use Rattle.counting.specs.Lent.{old, new};
 ghost use Rattle.slot_lists.specs.WalkLaws.{Departs, Departed, Arrives, Arrived, Visits, Visited, Carries, ListsCarried};
 
 // A choice leaves the list of the slot that its entry names, and that slot's sums.
@@ -17,7 +16,7 @@ fn depart(
     min: u32,
 )
     requires { Departs stride entry min (length lists.old) lens.old covered.old }
-    ensures { Departed stride entry choice min (old lists) (old lens) (old covered) (new lists) (new lens) (new covered) }
+    ensures { Departed stride entry choice min lists.old lens.old covered.old lists.new lens.new covered.new }
 {
     if entry == 0 {
         return;
@@ -40,7 +39,7 @@ fn arrive(
     min: u32,
 )
     requires { Arrives stride entry min (length lists.old) lens.old covered.old }
-    ensures { Arrived stride entry choice min (old lists) (old lens) (old covered) (new lists) (new lens) (new covered) }
+    ensures { Arrived stride entry choice min lists.old lens.old covered.old lists.new lens.new covered.new }
 {
     if entry == 0 {
         return;
@@ -64,7 +63,7 @@ fn visit(
     min: u32,
 )
     requires { Visits stride last next min (length lists.old) lens.old covered.old }
-    ensures { Visited stride last next choice min (old lists) (old lens) (old covered) (new lists) (new lens) (new covered) }
+    ensures { Visited stride last next choice min lists.old lens.old covered.old lists.new lens.new covered.new }
 {
     if last == next {
         return;
@@ -85,7 +84,7 @@ pub fn carry<'a>(
     mins: &'a [u32; 32],
 )
     requires { Carries stride n last.now next.now mins.now (length lists.old) lens.old covered.old }
-    ensures { ListsCarried stride n (old last) (old next) (old mins) (old lists) (new lists) (new lens) (new covered) }
+    ensures { ListsCarried stride n last.now next.now mins.now lists.old lists.new lens.new covered.new }
 {
     let mut i = 0;
     while i < n {

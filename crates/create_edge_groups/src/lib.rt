@@ -4,7 +4,6 @@
 mod pairs;
 
 ghost use Rattle.std.specs.Prelude.{◌≤◌, length};
-ghost use Rattle.counting.specs.Lent.{old};
 ghost use Rattle.scheduling.specs.Schedule.{entry_at};
 ghost use Rattle.slot_lists.specs.Lists.{listed};
 ghost use Rattle.mip_flow.specs.IndexLaws.{number_at};
@@ -33,7 +32,7 @@ fn put_dependent<'a>(
     at: Marks,
 ) -> Marks
     requires { (n ≤ 2080) × Dependent sizes groups lengths.now members.now × HasRoom entries ends blocked at 2048 1024 }
-    ensures { Stores n entries ends blocked at (dependent_names (number_at (old index)) sizes (old schedule) groups (old lengths) (old members)) result }
+    ensures { Stores n entries ends blocked at (dependent_names (number_at index.now) sizes schedule.now groups lengths.now members.now) result }
 {
     let mut to = at;
     let mut start = 0;
@@ -69,8 +68,8 @@ pub fn put_groups<'a>(
     requires { Grouping n sizes lists.now lens.now assignment groups lengths.now members.now
         (length group_entries.old) (length ends.old) (length blocked.old) }
     ensures { Stores n group_entries ends blocked (marks 0 0 0)
-        (names (number_at (old index)) sizes (old entries) (entry_at (old lens)) (listed sizes.stride (old lists))
-        assignment groups (old lengths) (old members)) result }
+        (names (number_at index.now) sizes entries.now (entry_at lens.now) (listed sizes.stride lists.now)
+        assignment groups lengths.now members.now) result }
 {
     let none = Marks {
         entries: 0,

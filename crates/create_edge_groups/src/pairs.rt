@@ -1,6 +1,5 @@
 // ChoosersHaveSameChoices: for each slot and listed choice, the edges of two choosers.
 ghost use Rattle.std.specs.Prelude.{◌*◌, ◌<◌, ◌≤◌, length};
-ghost use Rattle.counting.specs.Lent.{old};
 ghost use Rattle.scheduling.specs.Schedule.{entry_at};
 ghost use Rattle.slot_lists.specs.Lists.{listed};
 ghost use Rattle.mip_flow.specs.IndexLaws.{number_at};
@@ -25,7 +24,7 @@ fn put_list(
     at: Marks,
 ) -> Marks
     requires { (n ≤ 2080) × (a < 64) × (b < 64) × Choices part.now × HasRoom entries ends blocked at (length part.now * 2) (length part.now) }
-    ensures { Stores n entries ends blocked at (slot_names (number_at (old index)) a b (length (old part)) (entry_at (old part))) result }
+    ensures { Stores n entries ends blocked at (slot_names (number_at index.now) a b (length part.now) (entry_at part.now)) result }
 {
     let len = part.len();
     let mut to = at;
@@ -54,7 +53,7 @@ fn put_slot(
 ) -> Marks
     requires { (n ≤ 2080) × (a < 64) × (b < 64) × (s < sizes.slots) × Listed sizes lists.now lens.now
         × HasRoom entries ends blocked at (entry_at lens.now s * 2) (entry_at lens.now s) }
-    ensures { Stores n entries ends blocked at (slot_names_at (number_at (old index)) (entry_at (old lens)) (listed sizes.stride (old lists)) a b s) result }
+    ensures { Stores n entries ends blocked at (slot_names_at (number_at index.now) (entry_at lens.now) (listed sizes.stride lists.now) a b s) result }
 {
     let part = schedule_state::list_front(lists, sizes.stride, s, lens[s] as usize);
     put_list(n, index, part, a, b, entries, ends, blocked, at)
@@ -76,7 +75,7 @@ fn put_same_choices(
 ) -> Marks
     requires { (n ≤ 2080) × (a < 64) × (b < 64) × Listed sizes lists.now lens.now × HasRoom entries ends blocked at 64 32 }
     ensures { Stores n entries ends blocked at
-        (same_choices_names (number_at (old index)) sizes (entry_at (old lens)) (listed sizes.stride (old lists)) a b) result }
+        (same_choices_names (number_at index.now) sizes (entry_at lens.now) (listed sizes.stride lists.now) a b) result }
 {
     let slots = sizes.slots;
     let mut to = at;
@@ -105,7 +104,7 @@ fn put_constraint(
 ) -> Marks
     requires { (n ≤ 2080) × NamesChoosers c × Listed sizes lists.now lens.now × HasRoom entries ends blocked at 64 32 }
     ensures { Stores n entries ends blocked at
-        (constraint_names (number_at (old index)) sizes (entry_at (old lens)) (listed sizes.stride (old lists)) c) result }
+        (constraint_names (number_at index.now) sizes (entry_at lens.now) (listed sizes.stride lists.now) c) result }
 {
     let kind = c.kind;
     if kind.number() != 65539 {
@@ -134,7 +133,7 @@ pub fn put_constraints(
 ) -> Marks
     requires { (n ≤ 2080) × Constraints list × Listed sizes lists.now lens.now × HasRoom entries ends blocked at 2048 1024 }
     ensures { Stores n entries ends blocked at
-        (constraints_names (number_at (old index)) sizes (entry_at (old lens)) (listed sizes.stride (old lists)) list) result }
+        (constraints_names (number_at index.now) sizes (entry_at lens.now) (listed sizes.stride lists.now) list) result }
 {
     let count = list.count;
     let mut to = at;

@@ -1,6 +1,5 @@
 // Checks 8 and 9, of one list of constraints, by the kinds' numbers.
 ghost use Rattle.std.specs.Prelude.{◌≡◌, cond, not, ◌+◌, ◌≤◌, length};
-ghost use Rattle.counting.specs.Lent.{old};
 ghost use Rattle.input_data.specs.Checks.{bad_kind, bad_kinds};
 ghost use Rattle.input_data.specs.ByNumber.{extra_by_number, scheduling_by_number, assignment_by_number, bad_scheduling, bad_assignment};
 ghost use Rattle.input_data.specs.Bytes.{list_in};
@@ -18,7 +17,7 @@ fn bad_kind(least: u32, most: u32, kind: u32) -> bool
 // 8, of the list of `count` constraints whose entries begin at `at`.
 pub fn bad_kinds(least: u32, most: u32, day: &[u8], at: usize, count: usize) -> bool
     requires { at + 768 ≤ length day.now }
-    ensures { result ≡ bad_kinds least most (list_in (old day) count at) }
+    ensures { result ≡ bad_kinds least most (list_in day.now count at) }
 {
     let n = at_most(32, count);
     let mut bad = false;
@@ -65,7 +64,7 @@ fn bad_scheduling_operand(choices: u32, slots: u32, c: ConstraintNumbers) -> boo
 // 9, of the scheduling constraints, where 8 does not apply to them.
 pub fn bad_scheduling(choices: u32, slots: u32, day: &[u8], at: usize, count: usize) -> bool
     requires { at + 768 ≤ length day.now }
-    ensures { result ≡ bad_scheduling choices slots (list_in (old day) count at) }
+    ensures { result ≡ bad_scheduling choices slots (list_in day.now count at) }
 {
     let n = at_most(32, count);
     let mut bad = false;
@@ -91,7 +90,7 @@ fn bad_assignment_operand(choosers: u32, choices: u32, c: ConstraintNumbers) -> 
 // 9, of the assignment constraints, where 8 does not apply to them.
 pub fn bad_assignment(choosers: u32, choices: u32, day: &[u8], at: usize, count: usize) -> bool
     requires { at + 768 ≤ length day.now }
-    ensures { result ≡ bad_assignment choosers choices (list_in (old day) count at) }
+    ensures { result ≡ bad_assignment choosers choices (list_in day.now count at) }
 {
     let n = at_most(32, count);
     let mut bad = false;

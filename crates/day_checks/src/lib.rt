@@ -2,7 +2,6 @@
 #![tactic(auto)]
 
 ghost use Rattle.std.specs.Prelude.{◌≡◌, leb};
-ghost use Rattle.counting.specs.Lent.{old};
 ghost use Rattle.input_data.specs.Bytes.{IsDay, day_of};
 ghost use Rattle.input_data.specs.Checks.{bad_choice, bad_choices, member_count, bad_members, bad_groups, late_number, day_number};
 
@@ -27,7 +26,7 @@ fn bad_choice(min: u32, max: u32) -> bool
 // 3.
 fn bad_choices(n: usize, day: &[u8]) -> bool
     requires { IsDay day.now }
-    ensures { result ≡ bad_choices n (day_of (old day)).mins (day_of (old day)).maxs }
+    ensures { result ≡ bad_choices n (day_of day.now).mins (day_of day.now).maxs }
 {
     let most = at_most(32, n);
     let mut bad = false;
@@ -42,7 +41,7 @@ fn bad_choices(n: usize, day: &[u8]) -> bool
 // The members of all groups together. The sum of 16 lengths of 32 bits fits.
 fn member_count(n: usize, day: &[u8]) -> u64
     requires { IsDay day.now }
-    ensures { result ≡ member_count n (day_of (old day)).lengths }
+    ensures { result ≡ member_count n (day_of day.now).lengths }
 {
     let most = at_most(16, n);
     let mut sum: u64 = 0;
@@ -62,7 +61,7 @@ fn bad_member(choices: usize, member: u32) -> bool
 
 fn bad_members(choices: usize, count: u64, day: &[u8]) -> bool
     requires { IsDay day.now }
-    ensures { result ≡ bad_members choices count (day_of (old day)).members }
+    ensures { result ≡ bad_members choices count (day_of day.now).members }
 {
     let most = at_most(32, count as usize);
     let mut bad = false;
@@ -77,7 +76,7 @@ fn bad_members(choices: usize, count: u64, day: &[u8]) -> bool
 // 10.
 fn bad_groups(choices: usize, n: usize, day: &[u8]) -> bool
     requires { IsDay day.now }
-    ensures { result ≡ bad_groups choices n (day_of (old day)).lengths (day_of (old day)).members }
+    ensures { result ≡ bad_groups choices n (day_of day.now).lengths (day_of day.now).members }
 {
     (16 < n) | bad_members(choices, member_count(n, day), day)
 }
@@ -85,7 +84,7 @@ fn bad_groups(choices: usize, n: usize, day: &[u8]) -> bool
 // The first of checks 7 to 10 that applies, or `rest`.
 fn late_number(day: &[u8], asked: bool, rest: u32) -> u32
     requires { IsDay day.now }
-    ensures { result ≡ late_number (day_of (old day)) asked rest }
+    ensures { result ≡ late_number (day_of day.now) asked rest }
 {
     let s = scheduling_count(day);
     let a = assignment_count(day);
@@ -101,7 +100,7 @@ fn late_number(day: &[u8], asked: bool, rest: u32) -> u32
 // The first number that applies, with what a call tests beside the day, and `rest` after 10.
 pub fn day_number(limits: Limits, day: &[u8], beside: Beside, rest: u32) -> u32
     requires { IsDay day.now }
-    ensures { result ≡ day_number limits (day_of (old day)) beside rest }
+    ensures { result ≡ day_number limits (day_of day.now) beside rest }
 {
     let n = choices(day);
     let many = too_many(limits, choosers(day), n, slots(day));

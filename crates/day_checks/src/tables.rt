@@ -1,13 +1,12 @@
 // Checks 4, 5 and 6, of lent tables.
 ghost use Rattle.std.specs.Prelude.{◌≡◌, ◌<◌, length};
 ghost use Rattle.counting.specs.Fold.{any_to};
-ghost use Rattle.counting.specs.Lent.{old};
 ghost use Rattle.input_data.specs.Checks.{has_bad_preferences, has_bad_levels, bad_cost, has_bad_costs};
 ghost use Rattle.input_data.specs.Levels.{descends_at};
 
 // 4. A preference above max_preference.
 pub fn bad_preferences(most: u32, preferences: &[u32]) -> bool
-    ensures { result ≡ has_bad_preferences most (old preferences) }
+    ensures { result ≡ has_bad_preferences most preferences.now }
 {
     let mut bad = false;
     let mut i = 0;
@@ -21,7 +20,7 @@ pub fn bad_preferences(most: u32, preferences: &[u32]) -> bool
 // Whether one of the first n levels is not below the next.
 fn descends(levels: &[u32], n: usize) -> bool
     requires { n < length levels.now }
-    ensures { result ≡ any_to n (descends_at (old levels)) }
+    ensures { result ≡ any_to n (descends_at levels.now) }
 {
     let mut bad = false;
     let mut i = 0;
@@ -34,7 +33,7 @@ fn descends(levels: &[u32], n: usize) -> bool
 
 // 5. Levels that ascend are at most max_preference if the last one is.
 pub fn bad_levels(most: u32, levels: &[u32]) -> bool
-    ensures { result ≡ has_bad_levels most (old levels) }
+    ensures { result ≡ has_bad_levels most levels.now }
 {
     if levels.len() == 0 {
         return false;
@@ -51,7 +50,7 @@ fn bad_cost(cost: i64) -> bool
 
 // 6.
 pub fn bad_costs(costs: &[i64]) -> bool
-    ensures { result ≡ has_bad_costs (old costs) }
+    ensures { result ≡ has_bad_costs costs.now }
 {
     let mut bad = false;
     let mut i = 0;

@@ -2,7 +2,6 @@
 #![tactic(auto)]
 
 ghost use Rattle.std.specs.Prelude.{◌≡◌, ◌*◌, ◌<◌, ◌≤◌, length};
-ghost use Rattle.counting.specs.Lent.{old, new};
 ghost use Rattle.counting.specs.Search.{first_to};
 ghost use Rattle.counting.specs.Written.{written};
 ghost use Rattle.scheduling.specs.Schedule.{entry_at};
@@ -16,7 +15,7 @@ use input_data::Sizes;
 // Whether an edge is one of the first n and has the value 1.
 fn is_one(n: usize, values: &[i32], edge: u16) -> bool
     requires { n ≤ length values.now }
-    ensures { result ≡ is_one n (old values) edge }
+    ensures { result ≡ is_one n values.now edge }
 {
     let e = edge as usize;
     if e < n {
@@ -28,7 +27,7 @@ fn is_one(n: usize, values: &[i32], edge: u16) -> bool
 // Whether the chooser's edge to the choice has 1.
 fn has_one(n: usize, index: &[u16; 2048], values: &[i32], chooser: usize, choice: u8) -> bool
     requires { (n ≤ length values.now) × (chooser < 64) × (choice < 32) }
-    ensures { result ≡ is_one n (old values) (number_at (old index) chooser choice) }
+    ensures { result ≡ is_one n values.now (number_at index.now chooser choice) }
 {
     let cell = 32 * chooser + choice as usize;
     is_one(n, values, index[cell])
@@ -37,7 +36,7 @@ fn has_one(n: usize, index: &[u16; 2048], values: &[i32], chooser: usize, choice
 // The first of the listed choices to which the chooser's edge has 1. There is one.
 fn choice_of(n: usize, index: &[u16; 2048], part: &[u8], values: &[i32], chooser: usize) -> u8
     requires { Finds n index.now part.now values.now chooser }
-    ensures { result ≡ entry_at (old part) (first_to (length (old part)) (has_one n (old values) (number_at (old index)) (entry_at (old part)) chooser)) }
+    ensures { result ≡ entry_at part.now (first_to (length part.now) (has_one n values.now (number_at index.now) (entry_at part.now) chooser)) }
 {
     let mut j = 0;
     while !has_one(n, index, values, chooser, part[j]) {
@@ -59,7 +58,7 @@ fn choice_in(
 ) -> u8
     requires { (chooser < sizes.choosers) × (slot < sizes.slots)
         × Decoding n sizes index.now lists.now lens.now values.now (sizes.choosers * sizes.slots) }
-    ensures { result ≡ choice_for n (old values) (number_at (old index)) (entry_at (old lens)) (listed sizes.stride (old lists)) chooser slot }
+    ensures { result ≡ choice_for n values.now (number_at index.now) (entry_at lens.now) (listed sizes.stride lists.now) chooser slot }
 {
     let part = schedule_state::list_front(lists, sizes.stride, slot, lens[slot] as usize);
     choice_of(n, index, part, values, chooser)
@@ -77,7 +76,7 @@ fn put_row(
     chooser: usize,
 )
     requires { (chooser < sizes.choosers) × Decoding n sizes index.now lists.now lens.now values.now (length plan.old) }
-    ensures { new plan ≡ written (old plan) (chooser * sizes.slots) (decoded_row n sizes (old index) (old lists) (old lens) (old values) chooser) }
+    ensures { plan.new ≡ written plan.old (chooser * sizes.slots) (decoded_row n sizes index.now lists.now lens.now values.now chooser) }
 {
     let at = chooser * sizes.slots;
     let mut s = 0;
@@ -98,8 +97,8 @@ pub fn decode(
     plan: &mut [u8],
 )
     requires { Decoding n sizes index.now lists.now lens.now values.now (length plan.old) }
-    ensures { new plan ≡ written (old plan) 0
-        (decoded n (old values) (number_at (old index)) (entry_at (old lens)) (listed sizes.stride (old lists)) sizes) }
+    ensures { plan.new ≡ written plan.old 0
+        (decoded n values.now (number_at index.now) (entry_at lens.now) (listed sizes.stride lists.now) sizes) }
 {
     let mut c = 0;
     while c < sizes.choosers {

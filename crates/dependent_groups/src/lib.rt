@@ -4,7 +4,6 @@
 
 ghost use Rattle.std.specs.Prelude.{◌≡◌, ◌+◌, ◌*◌, ◌<◌, ◌≤◌, length};
 ghost use Rattle.counting.specs.Fold.{join_to};
-ghost use Rattle.counting.specs.Lent.{old, new};
 ghost use Rattle.counting.specs.WrittenLaws.{Put};
 ghost use Rattle.mip_flow.specs.IndexLaws.{number_at};
 ghost use Rattle.edge_groups.specs.Grouping.{Members};
@@ -19,7 +18,7 @@ use input_data::Sizes;
 // Whether the edge of chooser c to choice k is there. A choice without a slot names no edge.
 fn is_there(n: usize, index: &[u16; 2048], schedule: &[u8; 32], c: usize, k: usize) -> bool
     requires { (c < 64) × (k < 32) }
-    ensures { result ≡ all_there n (member_name (number_at (old index)) (old schedule) c k) }
+    ensures { result ≡ all_there n (member_name (number_at index.now) schedule.now c k) }
 {
     if schedule[k] == 0 {
         return true;
@@ -38,7 +37,7 @@ fn all_there(
     c: usize,
 ) -> bool
     requires { (c < 64) × Members start len members.now }
-    ensures { result ≡ all_there n (chooser_names (number_at (old index)) (old schedule) (old members) start len c) }
+    ensures { result ≡ all_there n (chooser_names (number_at index.now) schedule.now members.now start len c) }
 {
     let mut all = true;
     let mut i = 0;
@@ -61,7 +60,7 @@ fn put_member(
     at: usize,
 ) -> usize
     requires { (n ≤ 2080) × (c < 64) × (k < 32) × (at + 1 ≤ length out.old) }
-    ensures { Put storing (old out) at (present n (member_name (number_at (old index)) (old schedule) c k)) (new out) result }
+    ensures { Put storing out.old at (present n (member_name (number_at index.now) schedule.now c k)) out.new result }
 {
     if schedule[k] == 0 {
         return at;
@@ -82,7 +81,7 @@ fn put_present(
     at: usize,
 ) -> usize
     requires { (n ≤ 2080) × (c < 64) × Members start len members.now × (at + len ≤ length out.old) }
-    ensures { Put storing (old out) at (present n (chooser_names (number_at (old index)) (old schedule) (old members) start len c)) (new out) result }
+    ensures { Put storing out.old at (present n (chooser_names (number_at index.now) schedule.now members.now start len c)) out.new result }
 {
     let mut to = at;
     let mut i = 0;
@@ -109,7 +108,7 @@ fn put_chooser(
     at: Marks,
 ) -> Marks
     requires { (n ≤ 2080) × (c < 64) × Members start len members.now × HasRoom entries ends blocked at len 1 }
-    ensures { Stores n entries ends blocked at (chooser_names_at (number_at (old index)) (old schedule) (old members) start len c) result }
+    ensures { Stores n entries ends blocked at (chooser_names_at (number_at index.now) schedule.now members.now start len c) result }
 {
     let m = at.entries;
     let g = at.groups;
@@ -145,7 +144,7 @@ fn put_choosers(
     at: Marks,
 ) -> Marks
     requires { (n ≤ 2080) × (choosers ≤ 64) × Members start len members.now × HasRoom entries ends blocked at (choosers * len) choosers }
-    ensures { Stores n entries ends blocked at (join_to choosers (chooser_names_at (number_at (old index)) (old schedule) (old members) start len)) result }
+    ensures { Stores n entries ends blocked at (join_to choosers (chooser_names_at (number_at index.now) schedule.now members.now start len)) result }
 {
     let mut to = at;
     let mut c = 0;
@@ -173,7 +172,7 @@ pub fn put_group(
     at: Marks,
 ) -> Marks
     requires { (n ≤ 2080) × (sizes.choosers ≤ 64) × Members start len members.now × HasRoom entries ends blocked at (len * 64) 64 }
-    ensures { Stores n entries ends blocked at (group_names (number_at (old index)) sizes (old schedule) (old members) start len) result }
+    ensures { Stores n entries ends blocked at (group_names (number_at index.now) sizes schedule.now members.now start len) result }
 {
     if len == 1 {
         return at;

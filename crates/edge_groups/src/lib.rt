@@ -3,7 +3,6 @@
 #![tactic(auto)]
 
 ghost use Rattle.std.specs.Prelude.{◌≡◌, [], ◌∷◌, ◌+◌, ◌<◌, ◌≤◌, length};
-ghost use Rattle.counting.specs.Lent.{old, new};
 ghost use Rattle.counting.specs.WrittenLaws.{Put};
 ghost use Rattle.mip_flow.specs.IndexLaws.{number_at};
 ghost use Rattle.edge_groups.specs.Groups.{if_there, present};
@@ -27,7 +26,7 @@ fn widened(number: u16) -> usize
 // The number of the edge of chooser c to choice k.
 pub fn edge_number(index: &[u16; 2048], c: usize, k: usize) -> usize
     requires { (c < 64) × (k < 32) }
-    ensures { result ≡ number_at (old index) c k }
+    ensures { result ≡ number_at index.now c k }
 {
     widened(index[32 * c + k])
 }
@@ -35,7 +34,7 @@ pub fn edge_number(index: &[u16; 2048], c: usize, k: usize) -> usize
 // Stores an edge if it is there.
 pub fn put_edge(n: usize, e: usize, out: &mut [u16], at: usize) -> usize
     requires { (n ≤ 2080) × (at + 1 ≤ length out.old) }
-    ensures { Put storing (old out) at (if_there n e) (new out) result }
+    ensures { Put storing out.old at (if_there n e) out.new result }
 {
     if e < n {
         out[at] = e as u16;
@@ -47,7 +46,7 @@ pub fn put_edge(n: usize, e: usize, out: &mut [u16], at: usize) -> usize
 // Stores those of two edges that are there.
 fn put_two(n: usize, x: usize, y: usize, out: &mut [u16], at: usize) -> usize
     requires { (n ≤ 2080) × (at + 2 ≤ length out.old) }
-    ensures { Put storing (old out) at (present n (x ∷ y ∷ [])) (new out) result }
+    ensures { Put storing out.old at (present n (x ∷ y ∷ [])) out.new result }
 {
     let next = put_edge(n, x, out, at);
     put_edge(n, y, out, next)
@@ -98,7 +97,7 @@ pub fn put_choice(
     at: Marks,
 ) -> Marks
     requires { (n ≤ 2080) × (a < 64) × (b < 64) × (k < 32) × HasRoom entries ends blocked at 2 1 }
-    ensures { Stores n entries ends blocked at ((number_at (old index) a k ∷ number_at (old index) b k ∷ []) ∷ []) result }
+    ensures { Stores n entries ends blocked at ((number_at index.now a k ∷ number_at index.now b k ∷ []) ∷ []) result }
 {
     let x = edge_number(index, a, k);
     let y = edge_number(index, b, k);

@@ -3,7 +3,6 @@ use Rattle.std.specs.Prelude.{ℕ, ◌≤◌, ◌<◌, ◌≡◌, false, List, [
 use Rattle.std.specs.Borrow.{Bor}
 use Rattle.std.proofs.Common.{arith}
 use Rattle.counting.specs.Fold.{any_to}
-use Rattle.counting.specs.Lent.{old}
 use Rattle.input_data.specs.Checks.{first_of}
 use Rattle.mip_flow.specs.Lent.{Slice}
 use Rattle.model_buffers.specs.Buffers.{Buffers, buffers}
@@ -60,4 +59,4 @@ Readable nodes k supplies from to max entries ends blocked values =
 
 abbrev pub number_read : ℕ → Counts → Slice ℤ → Slice ℕ → Slice ℕ → Slice ℕ → Slice ℕ → Slice ℕ → Slice ℕ → Slice ℤ → ℕ
 number_read nodes k supplies from to max entries ends blocked values =
-    buffer_number nodes k (buffers (old supplies) (old from) (old to) (old max) [] (old entries) (old ends) (old blocked)) (old values)
+    buffer_number nodes k (buffers supplies.entry.now from.entry.now to.entry.now max.entry.now [] entries.entry.now ends.entry.now blocked.entry.now) values.entry.now

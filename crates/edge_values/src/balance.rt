@@ -4,7 +4,6 @@ ghost use Rattle.std.specs.Prelude.{◌≡◌, ◌+◌, ◌<◌, ◌≤◌, true
 ghost use Rattle.std.specs.Int.Signed.{mag, non_neg};
 ghost use Rattle.counting.specs.Fold.{any_to};
 ghost use Rattle.counting.specs.Ints.{eq_z};
-ghost use Rattle.counting.specs.Lent.{old, new};
 ghost use Rattle.edge_values.specs.Values.{some_unbalanced};
 ghost use Rattle.edge_values.specs.Balance.{Balancing, Walking, Weighing, Flows, unbalanced_by};
 
@@ -18,7 +17,7 @@ fn amount(value: i32) -> u32
 
 fn add(sums: &mut [u32; 552], node: usize, amount: u32)
     requires { (node < 552) × (get_or sums.old node 0 + amount < 4294967296) }
-    ensures { new sums ≡ set (old sums) node (get_or (old sums) node 0 + amount) }
+    ensures { sums.new ≡ set sums.old node (get_or sums.old node 0 + amount) }
 {
     sums[node] = sums[node] + amount;
 }
@@ -33,7 +32,7 @@ fn add_flows(
     ins: &mut [u32; 552],
 )
     requires { Walking edges from.now to.now values.now outs.old ins.old }
-    ensures { Flows edges (old from) (old values) (new outs) × Flows edges (old to) (old values) (new ins) }
+    ensures { Flows edges from.now values.now outs.new × Flows edges to.now values.now ins.new }
 {
     let mut e = 0;
     while e < edges {
@@ -58,7 +57,7 @@ fn sums_unbalanced<'a>(
     supplies: &[i32],
 ) -> bool
     requires { Weighing nodes outs.now ins.now (length supplies.now) }
-    ensures { result ≡ any_to nodes (unbalanced_by (old outs) (old ins) (old supplies)) }
+    ensures { result ≡ any_to nodes (unbalanced_by outs.now ins.now supplies.now) }
 {
     let mut bad = false;
     let mut v = 0;
@@ -79,7 +78,7 @@ pub fn some_unbalanced(
     values: &[i32],
 ) -> bool
     requires { Balancing nodes edges from.now to.now supplies.now values.now }
-    ensures { result ≡ some_unbalanced nodes edges (old from) (old to) (old supplies) (old values) }
+    ensures { result ≡ some_unbalanced nodes edges from.now to.now supplies.now values.now }
 {
     let mut outs = [0u32; 552];
     let mut ins = [0u32; 552];

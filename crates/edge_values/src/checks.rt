@@ -2,7 +2,6 @@
 ghost use Rattle.std.specs.Prelude.{◌≡◌, ◌≤◌, not, length};
 ghost use Rattle.counting.specs.Fold.{any_to};
 ghost use Rattle.counting.specs.Ints.{eq_z};
-ghost use Rattle.counting.specs.Lent.{old};
 ghost use Rattle.edge_values.specs.Values.{out_of_bounds, some_outside, some_used, is_uneven};
 ghost use Rattle.edge_values.specs.Checks.{Bounded, Naming, uneven_part, Grouped};
 
@@ -16,7 +15,7 @@ fn is_outside(value: i32, max: u32) -> bool
 // 14. An edge value lies outside 0 to the edge's max.
 pub fn some_outside(edges: usize, maxs: &[u32], values: &[i32]) -> bool
     requires { Bounded edges maxs.now (length values.now) }
-    ensures { result ≡ some_outside edges (old maxs) (old values) }
+    ensures { result ≡ some_outside edges maxs.now values.now }
 {
     let mut bad = false;
     let mut e = 0;
@@ -36,7 +35,7 @@ fn differs(a: i32, b: i32) -> bool
 // 15. A blocked edge has a value other than 0.
 pub fn some_used(n: usize, blocked: &[u16], values: &[i32]) -> bool
     requires { Naming n blocked.now (length values.now) }
-    ensures { result ≡ some_used n (old blocked) (old values) }
+    ensures { result ≡ some_used n blocked.now values.now }
 {
     let mut bad = false;
     let mut i = 0;
@@ -51,7 +50,7 @@ pub fn some_used(n: usize, blocked: &[u16], values: &[i32]) -> bool
 // Two edges of a group differ: one differs from the first.
 fn is_uneven(group: &[u16], values: &[i32]) -> bool
     requires { Naming (length group.now) group.now (length values.now) }
-    ensures { result ≡ is_uneven (old values) (old group) }
+    ensures { result ≡ is_uneven values.now group.now }
 {
     if group.len() == 0 {
         return false;
@@ -71,7 +70,7 @@ fn is_uneven(group: &[u16], values: &[i32]) -> bool
 // 16. Two edges of one group differ. Each group begins where the one before it ends.
 pub fn some_uneven(groups: usize, entries: &[u16], ends: &[u16], values: &[i32]) -> bool
     requires { Grouped groups entries.now ends.now (length values.now) }
-    ensures { result ≡ any_to groups (uneven_part (old values) (old entries) (old ends)) }
+    ensures { result ≡ any_to groups (uneven_part values.now entries.now ends.now) }
 {
     let mut bad = false;
     let mut start: usize = 0;

@@ -1,6 +1,5 @@
 // What the calls test of a schedule and a plan: 2, 11 and 13.
 ghost use Rattle.std.specs.Prelude.{◌≡◌, not, ◌&&◌, eqb, length};
-ghost use Rattle.counting.specs.Lent.{old};
 ghost use Rattle.input_data.specs.Bytes.{day_of};
 ghost use Rattle.scheduling.specs.Handed.{schedule_of};
 ghost use Rattle.feasibility.specs.Checks.{parts_number};
@@ -16,7 +15,7 @@ pub fn wrong_schedule(there: bool, size: usize) -> bool
 // 11 and 13 of the parts that are there.
 pub fn parts_number(scheduled: bool, seated: bool, day: &[u8], schedule: &[u8], plan: &[u8]) -> u32
     requires { Parted scheduled seated day.now schedule.now (length plan.now) }
-    ensures { result ≡ parts_number scheduled seated (day_of (old day)) (schedule_of (old schedule)) (old plan) }
+    ensures { result ≡ parts_number scheduled seated (day_of day.now) (schedule_of schedule.now) plan.now }
 {
     let choices = input_data::choices(day);
     let slots = input_data::slots(day);

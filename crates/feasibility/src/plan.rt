@@ -1,6 +1,5 @@
 // Scoring::is_feasible of a schedule and a plan that were accepted.
 ghost use Rattle.std.specs.Prelude.{◌≡◌};
-ghost use Rattle.counting.specs.Lent.{old};
 ghost use Rattle.input_data.specs.Bytes.{IsDay, day_of};
 ghost use Rattle.satisfies_constraints.specs.Constraints.{assignment_met};
 ghost use Rattle.feasibility.specs.Feasible.{choices_filled, plan_feasible};
@@ -9,7 +8,7 @@ ghost use Rattle.feasibility.specs.Laws.{Judged};
 // Whether a plan meets the assignment constraints.
 pub fn assignment_holds(day: &[u8], entries: &[u8; 32], plan: &[u8]) -> bool
     requires { IsDay day.now × Judged (day_of day.now) entries.now plan.now }
-    ensures { result ≡ assignment_met (day_of (old day)) (old entries) (old plan) }
+    ensures { result ≡ assignment_met (day_of day.now) entries.now plan.now }
 {
     let choosers = input_data::choosers(day);
     let choices = input_data::choices(day);
@@ -20,7 +19,7 @@ pub fn assignment_holds(day: &[u8], entries: &[u8; 32], plan: &[u8]) -> bool
 // Whether each choice that has a slot has from min to max seats.
 fn all_filled(day: &[u8], entries: &[u8; 32], plan: &[u8]) -> bool
     requires { IsDay day.now × Judged (day_of day.now) entries.now plan.now }
-    ensures { result ≡ choices_filled (day_of (old day)) (old entries) (old plan) }
+    ensures { result ≡ choices_filled (day_of day.now) entries.now plan.now }
 {
     let seats = input_data::choosers(day) * input_data::slots(day);
     let counts = seat_counts::part_counts(seats, plan);
@@ -32,7 +31,7 @@ fn all_filled(day: &[u8], entries: &[u8; 32], plan: &[u8]) -> bool
 // The test of a schedule and a plan that were looked at.
 pub fn plan_holds(day: &[u8], entries: &[u8; 32], plan: &[u8]) -> bool
     requires { IsDay day.now × Judged (day_of day.now) entries.now plan.now }
-    ensures { result ≡ plan_feasible (day_of (old day)) (old entries) (old plan) }
+    ensures { result ≡ plan_feasible (day_of day.now) entries.now plan.now }
 {
     let choices = input_data::choices(day);
     let scheduled = satisfies_constraints::scheduling_met(choices, entries, day);

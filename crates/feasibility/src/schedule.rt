@@ -1,7 +1,6 @@
 // Scheduling::is_feasible of a schedule that was accepted.
 ghost use Rattle.std.specs.Prelude.{◌≡◌, ◌&&◌, ◌≤◌, leb};
 ghost use Rattle.counting.specs.Fold.{all_to};
-ghost use Rattle.counting.specs.Lent.{old, new};
 ghost use Rattle.input_data.specs.Bytes.{IsDay, day_of};
 ghost use Rattle.feasibility.specs.Feasible.{is_placed, schedule_feasible};
 ghost use Rattle.feasibility.specs.Laws.{sums_seat, Schedulable, Weighable, SizeSums};
@@ -10,7 +9,7 @@ ghost use Rattle.slot_lists.specs.SumsLaws.{Unweighed};
 // Whether every choice without the optional mark has a slot.
 fn all_placed(choices: usize, entries: &[u8; 32], day: &[u8]) -> bool
     requires { IsDay day.now × (choices ≤ 32) }
-    ensures { result ≡ all_to choices (is_placed (day_of (old day)) (old entries)) }
+    ensures { result ≡ all_to choices (is_placed (day_of day.now) entries.now) }
 {
     let mut placed = true;
     let mut k = 0;
@@ -30,7 +29,7 @@ fn seats_all(choosers: usize, min: u32, max: u32) -> bool
 // Whether the choosers are from the sum of min to the sum of max in every slot.
 fn all_seated<'a>(choosers: usize, slots: usize, mins: &'a [u32; 8], maxs: &'a [u32; 8]) -> bool
     requires { slots ≤ 8 }
-    ensures { result ≡ sums_seat choosers slots (old mins) (old maxs) }
+    ensures { result ≡ sums_seat choosers slots mins.now maxs.now }
 {
     let mut seated = true;
     let mut s = 0;
@@ -44,7 +43,7 @@ fn all_seated<'a>(choosers: usize, slots: usize, mins: &'a [u32; 8], maxs: &'a [
 // The sums of min and of max of each slot, in one walk over the choices.
 fn add_sizes(mins: &mut [u32; 8], maxs: &mut [u32; 8], day: &[u8], entries: &[u8; 32], n: usize)
     requires { IsDay day.now × Unweighed mins.old maxs.old × Weighable (day_of day.now) entries.now n }
-    ensures { SizeSums (day_of (old day)) (old entries) n (new mins) (new maxs) }
+    ensures { SizeSums (day_of day.now) entries.now n mins.new maxs.new }
 {
     let mut i = 0;
     while i < n {
@@ -57,7 +56,7 @@ fn add_sizes(mins: &mut [u32; 8], maxs: &mut [u32; 8], day: &[u8], entries: &[u8
 // The test of a schedule that was looked at.
 pub fn schedule_holds(day: &[u8], entries: &[u8; 32]) -> bool
     requires { IsDay day.now × Schedulable (day_of day.now) entries.now }
-    ensures { result ≡ schedule_feasible (day_of (old day)) (old entries) }
+    ensures { result ≡ schedule_feasible (day_of day.now) entries.now }
 {
     let choices = input_data::choices(day);
     let mut mins = [0u32; 8];

@@ -1,6 +1,5 @@
 // add_keyed_edge of mip_flow.rs: one edge, that of a seat or that of a scheduled choice, is stored.
 ghost use Rattle.std.specs.Prelude.{◌<◌};
-ghost use Rattle.counting.specs.Lent.{old, new};
 ghost use Rattle.mip_flow.specs.Edges.{seat_at, place_at};
 ghost use Rattle.mip_flow.specs.Lent.{lent_offer, OfferLent, HasRoom, StoresSeats, StoresChoices};
 ghost use Rattle.mip_flow.specs.Stored.{with_index, tables, choices_of, OneSeat, OneChoice, Placed};
@@ -21,8 +20,8 @@ fn put_seat_edge(
     p: usize,
 ) -> usize
     requires { HasRoom from to max cost n 1 × (f < 552) × (t < 552) × (p < 2048) }
-    ensures { OneSeat (with_index (old from) (old to) (old max) (old cost) (old index)) n f t c p
-        (with_index (new from) (new to) (new max) (new cost) (new index)) result }
+    ensures { OneSeat (with_index from.old to.old max.old cost.old index.old) n f t c p
+        (with_index from.new to.new max.new cost.new index.new) result }
 {
     from[n] = f as u16;
     to[n] = t as u16;
@@ -78,7 +77,7 @@ fn put_choice_edge(
     m: u32,
 ) -> usize
     requires { HasRoom from to max cost n 1 × (f < 552) × (t < 552) }
-    ensures { OneChoice (tables (old from) (old to) (old max) (old cost)) n f t m (tables (new from) (new to) (new max) (new cost)) result }
+    ensures { OneChoice (tables from.old to.old max.old cost.old) n f t m (tables from.new to.new max.new cost.new) result }
 {
     from[n] = f as u16;
     to[n] = t as u16;
@@ -102,7 +101,7 @@ pub fn put_choice<'a>(
 ) -> usize
     requires { Placed (choices_of sizes entries.now mins.now maxs.now) × (k < sizes.choices)
         × HasRoom from to max cost n 1 }
-    ensures { StoresChoices (choices_of sizes (old entries) (old mins) (old maxs)) n (place_at (old entries) k) from to max cost result }
+    ensures { StoresChoices (choices_of sizes entries.now mins.now maxs.now) n (place_at entries.now k) from to max cost result }
 {
     let entry = entries[k] as usize;
     if entry == 0 {

@@ -6,7 +6,6 @@ mod edges;
 
 ghost use Rattle.std.specs.Prelude.{ℕ, ◌*◌, ◌<◌, length};
 ghost use Rattle.counting.specs.Fold.{sum_to};
-ghost use Rattle.counting.specs.Lent.{old};
 ghost use Rattle.scheduling.specs.Schedule.{entry_at};
 ghost use Rattle.slot_lists.specs.Lists.{listed};
 ghost use Rattle.mip_flow.specs.Edges.{slot_seats, slot_seats_at, chooser_seats, open_seats, scheduled};
@@ -36,7 +35,7 @@ fn put_slot_seats(
     requires { OfferLent sizes limit preferences blocks costs × (c < sizes.choosers) × (s < sizes.slots)
         × ((j : ℕ) → j < length part.now → entry_at part.now j < sizes.choices) × HasRoom from to max cost n (length part.now) }
     ensures { StoresSeats (lent_offer sizes limit preferences blocks costs) n
-        (slot_seats (lent_offer sizes limit preferences blocks costs) c s (length (old part)) (entry_at (old part)))
+        (slot_seats (lent_offer sizes limit preferences blocks costs) c s (length part.now) (entry_at part.now))
         from to max cost index result }
 {
     let len = part.len();
@@ -85,7 +84,7 @@ fn put_listed_seats(
     requires { OfferLent sizes limit preferences blocks costs × Listed sizes lists.now lens.now × (c < sizes.choosers) × (s < sizes.slots)
         × HasRoom from to max cost n (entry_at lens.now s) }
     ensures { StoresSeats (lent_offer sizes limit preferences blocks costs) n
-        (slot_seats_at (lent_offer sizes limit preferences blocks costs) (entry_at (old lens)) (listed sizes.stride (old lists)) c s)
+        (slot_seats_at (lent_offer sizes limit preferences blocks costs) (entry_at lens.now) (listed sizes.stride lists.now) c s)
         from to max cost index result }
 {
     let len = lens[s] as usize;
@@ -128,7 +127,7 @@ fn put_chooser_seats(
     requires { OfferLent sizes limit preferences blocks costs × Listed sizes lists.now lens.now × (c < sizes.choosers)
         × HasRoom from to max cost n (sum_to sizes.slots (entry_at lens.now)) }
     ensures { StoresSeats (lent_offer sizes limit preferences blocks costs) n
-        (chooser_seats (lent_offer sizes limit preferences blocks costs) (entry_at (old lens)) (listed sizes.stride (old lists)) c)
+        (chooser_seats (lent_offer sizes limit preferences blocks costs) (entry_at lens.now) (listed sizes.stride lists.now) c)
         from to max cost index result }
 {
     let slots = sizes.slots;
@@ -175,7 +174,7 @@ pub fn put_seats(
     requires { OfferLent sizes limit preferences blocks costs × Listed sizes lists.now lens.now
         × HasRoom from to max cost 0 (sizes.choosers * sum_to sizes.slots (entry_at lens.now)) }
     ensures { StoresSeats (lent_offer sizes limit preferences blocks costs) 0
-        (open_seats (lent_offer sizes limit preferences blocks costs) (entry_at (old lens)) (listed sizes.stride (old lists)))
+        (open_seats (lent_offer sizes limit preferences blocks costs) (entry_at lens.now) (listed sizes.stride lists.now))
         from to max cost index result }
 {
     let choosers = sizes.choosers;
@@ -216,7 +215,7 @@ pub fn put_choices<'a>(
     n: usize,
 ) -> usize
     requires { Placed (choices_of sizes entries.now mins.now maxs.now) × HasRoom from to max cost n sizes.choices }
-    ensures { StoresChoices (choices_of sizes (old entries) (old mins) (old maxs)) n (scheduled sizes.choices (old entries)) from to max cost result }
+    ensures { StoresChoices (choices_of sizes entries.now mins.now maxs.now) n (scheduled sizes.choices entries.now) from to max cost result }
 {
     let choices = sizes.choices;
     let mut at = n;

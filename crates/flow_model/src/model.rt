@@ -1,6 +1,5 @@
 // The flow model of a state at a preference limit, in the lent buffers.
 ghost use Rattle.std.specs.Prelude.{◌≡◌, replicate};
-ghost use Rattle.counting.specs.Lent.{old, new};
 ghost use Rattle.input_data.specs.Lengths.{Within};
 ghost use Rattle.model_buffers.specs.Buffers.{buffers, lengths_of};
 ghost use Rattle.plans.specs.Model.{model_input};
@@ -34,9 +33,9 @@ fn put_model(
     requires { Buildable limits (model_input day state limit preferences.now costs.now lists.now)
         (lengths_of (buffers supplies.old from.old to.old max.old cost.old entries.old ends.old blocked.old))
         × (index.old ≡ replicate 2048 65535) }
-    ensures { ModelMade limits (model_input day state limit (old preferences) (old costs) (old lists))
-        (buffers (old supplies) (old from) (old to) (old max) (old cost) (old entries) (old ends) (old blocked))
-        (buffers (new supplies) (new from) (new to) (new max) (new cost) (new entries) (new ends) (new blocked)) (new index) result }
+    ensures { ModelMade limits (model_input day state limit preferences.now costs.now lists.now)
+        (buffers supplies.old from.old to.old max.old cost.old entries.old ends.old blocked.old)
+        (buffers supplies.new from.new to.new max.new cost.new entries.new ends.new blocked.new) index.new result }
 {
     let sizes = Sizes {
         stride: limits.choices,
@@ -111,9 +110,9 @@ pub fn enter(
     short: bool,
 ) -> Entered
     requires { Within limits × (index.old ≡ replicate 2048 65535) }
-    ensures { EnteredLent limits (old day) (old state) (lent_input (old day) (old state) limit (old preferences) (old costs) (old lists)) short
-        (buffers (old supplies) (old from) (old to) (old max) (old cost) (old entries) (old ends) (old blocked))
-        (buffers (new supplies) (new from) (new to) (new max) (new cost) (new entries) (new ends) (new blocked)) (new index) result }
+    ensures { EnteredLent limits day.now state.now (lent_input day.now state.now limit preferences.now costs.now lists.now) short
+        (buffers supplies.old from.old to.old max.old cost.old entries.old ends.old blocked.old)
+        (buffers supplies.new from.new to.new max.new cost.new entries.new ends.new blocked.new) index.new result }
 {
     let lengths = Lengths {
         supplies: supplies.len(),

@@ -1,6 +1,5 @@
 // The number of a call that builds a model, before values are looked at.
 ghost use Rattle.std.specs.Prelude.{◌≡◌};
-ghost use Rattle.counting.specs.Lent.{old};
 ghost use Rattle.input_data.specs.Lengths.{Within};
 ghost use Rattle.flow_model.specs.Lent.{lent_input, lent_number_with};
 
@@ -20,8 +19,8 @@ pub fn number_with(
     short: bool,
 ) -> u32
     requires { Within limits }
-    ensures { result ≡ lent_number_with limits (old day) (old state)
-        (lent_input (old day) (old state) 0 (old preferences) (old costs) (old lists)) lengths short }
+    ensures { result ≡ lent_number_with limits day.now state.now
+        (lent_input day.now state.now 0 preferences.now costs.now lists.now) lengths short }
 {
     if day.len() != 2044 {
         return 2;

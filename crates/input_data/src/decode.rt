@@ -1,6 +1,5 @@
 // Parts of a day as arrays, and the day as a struct, for calls that read them many times.
 ghost use Rattle.std.specs.Prelude.{◌≡◌, ◌+◌, ◌≤◌, length};
-ghost use Rattle.counting.specs.Lent.{old};
 ghost use Rattle.counting.specs.Fold.{table_to};
 ghost use Rattle.input_data.specs.Bytes.{IsDay, numbers_in, day_of};
 ghost use Rattle.input_data.specs.BytesLaws.{word_from};
@@ -14,7 +13,7 @@ use crate::{ConstraintList, ConstraintNumbers, InputData};
 // 32 numbers that stand from `at` on.
 fn words32(b: &[u8], at: usize) -> [u32; 32]
     requires { at + 128 ≤ length b.now }
-    ensures { result ≡ table_to 32 (word_from (old b) at) }
+    ensures { result ≡ table_to 32 (word_from b.now at) }
 {
     let mut out = [0u32; 32];
     let mut i = 0;
@@ -27,28 +26,28 @@ fn words32(b: &[u8], at: usize) -> [u32; 32]
 
 pub fn mins_of(day: &[u8]) -> [u32; 32]
     requires { IsDay day.now }
-    ensures { result ≡ (day_of (old day)).mins }
+    ensures { result ≡ (day_of day.now).mins }
 {
     words32(day, 28)
 }
 
 pub fn maxs_of(day: &[u8]) -> [u32; 32]
     requires { IsDay day.now }
-    ensures { result ≡ (day_of (old day)).maxs }
+    ensures { result ≡ (day_of day.now).maxs }
 {
     words32(day, 156)
 }
 
 fn members_of(day: &[u8]) -> [u32; 32]
     requires { IsDay day.now }
-    ensures { result ≡ (day_of (old day)).members }
+    ensures { result ≡ (day_of day.now).members }
 {
     words32(day, 380)
 }
 
 fn lengths_of(day: &[u8]) -> [u32; 16]
     requires { IsDay day.now }
-    ensures { result ≡ (day_of (old day)).lengths }
+    ensures { result ≡ (day_of day.now).lengths }
 {
     let mut out = [0u32; 16];
     let mut i = 0;
@@ -61,7 +60,7 @@ fn lengths_of(day: &[u8]) -> [u32; 16]
 
 fn optional_of(day: &[u8]) -> [bool; 32]
     requires { IsDay day.now }
-    ensures { result ≡ (day_of (old day)).optional }
+    ensures { result ≡ (day_of day.now).optional }
 {
     let mut out = [false; 32];
     let mut i = 0;
@@ -75,7 +74,7 @@ fn optional_of(day: &[u8]) -> [bool; 32]
 // The constraints whose entries begin at `at`.
 fn entries_of(day: &[u8], at: usize) -> [ConstraintNumbers; 32]
     requires { at + 768 ≤ length day.now }
-    ensures { result ≡ table_to 32 (numbers_in (old day) at) }
+    ensures { result ≡ table_to 32 (numbers_in day.now at) }
 {
     let none = ConstraintNumbers {
         kind: 0,
@@ -96,7 +95,7 @@ fn entries_of(day: &[u8], at: usize) -> [ConstraintNumbers; 32]
 
 fn scheduling_of(day: &[u8]) -> ConstraintList
     requires { IsDay day.now }
-    ensures { result ≡ (day_of (old day)).scheduling }
+    ensures { result ≡ (day_of day.now).scheduling }
 {
     ConstraintList {
         count: scheduling_count(day),
@@ -106,7 +105,7 @@ fn scheduling_of(day: &[u8]) -> ConstraintList
 
 pub fn assignment_of(day: &[u8]) -> ConstraintList
     requires { IsDay day.now }
-    ensures { result ≡ (day_of (old day)).assignment }
+    ensures { result ≡ (day_of day.now).assignment }
 {
     ConstraintList {
         count: assignment_count(day),
@@ -117,7 +116,7 @@ pub fn assignment_of(day: &[u8]) -> ConstraintList
 // The day as a struct.
 pub fn day_of(day: &[u8]) -> InputData
     requires { IsDay day.now }
-    ensures { result ≡ day_of (old day) }
+    ensures { result ≡ day_of day.now }
 {
     InputData {
         choosers: choosers(day),

@@ -3,7 +3,6 @@
 #![tactic(auto)]
 
 ghost use Rattle.std.specs.Prelude.{◌≡◌, false, not, ◌&&◌, ◌+◌, ◌-◌, ◌*◌, ◌<◌, ◌≤◌, leb, pos, length, get_or};
-ghost use Rattle.counting.specs.Lent.{old};
 ghost use Rattle.blocks.specs.Blocks.{cell};
 ghost use Rattle.mip_flow_static_data.specs.Nodes.{slot_node};
 ghost use Rattle.mip_flow.specs.Edges.{SmallSizes};
@@ -20,7 +19,7 @@ pub fn has_edge(limit: u32, preference: u32, blocked: bool) -> bool
 // Whether a block applies to chooser c and choice k.
 pub fn is_blocked(blocks: &[bool; 2048], c: usize, k: usize) -> bool
     requires { (c < 64) × (k < 32) }
-    ensures { result ≡ get_or (old blocks) (cell c k) false }
+    ensures { result ≡ get_or blocks.now (cell c k) false }
 {
     blocks[32 * c + k]
 }
@@ -28,7 +27,7 @@ pub fn is_blocked(blocks: &[bool; 2048], c: usize, k: usize) -> bool
 // What an edge costs: the cost of the preference.
 pub fn edge_cost(costs: &[i64], preference: u32) -> i64
     requires { preference < length costs.now }
-    ensures { result ≡ get_or (old costs) preference (pos 0) }
+    ensures { result ≡ get_or costs.now preference (pos 0) }
 {
     costs[preference as usize]
 }

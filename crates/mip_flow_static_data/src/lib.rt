@@ -3,7 +3,6 @@
 
 ghost use Rattle.std.specs.Prelude.{◌≡◌, ℕ, ◌+◌, ◌*◌, ◌<◌, ◌≤◌, cond, eqb, pos, neg_ℤ, length};
 ghost use Rattle.counting.specs.Fold.{table_to};
-ghost use Rattle.counting.specs.Lent.{old, new};
 ghost use Rattle.counting.specs.Written.{written};
 ghost use Rattle.scheduling.specs.Schedule.{entry_at};
 ghost use Rattle.mip_flow_static_data.specs.Nodes.{node_count, chooser_supply, choice_supply, slot_supply, supplies, Supplying};
@@ -24,7 +23,7 @@ fn choice_supply(entry: u8, min: u32) -> i32
 // A chooser in a slot supplies 1.
 fn put_chooser_supplies(out: &mut [i32], n: usize)
     requires { n ≤ length out.old }
-    ensures { new out ≡ written (old out) 0 (table_to n chooser_supply) }
+    ensures { out.new ≡ written out.old 0 (table_to n chooser_supply) }
 {
     let mut i = 0;
     while i < n {
@@ -41,7 +40,7 @@ fn put_choice_supplies<'a>(
     at: usize,
 )
     requires { (choices ≤ 32) × (at + choices ≤ length out.old) × ((k : ℕ) → k < choices → entry_at mins.now k ≤ 1000) }
-    ensures { new out ≡ written (old out) at (table_to choices (choice_supply (old entries) (old mins))) }
+    ensures { out.new ≡ written out.old at (table_to choices (choice_supply entries.now mins.now)) }
 {
     let mut k = 0;
     while k < choices {
@@ -53,7 +52,7 @@ fn put_choice_supplies<'a>(
 fn put_slot_supplies(sizes: Sizes, covered: &[u32; 8], out: &mut [i32], at: usize)
     requires { (sizes.slots ≤ 8) × (sizes.choosers ≤ 64) × (at + sizes.slots ≤ length out.old)
         × ((s : ℕ) → s < sizes.slots → entry_at covered.now s ≤ 32000) }
-    ensures { new out ≡ written (old out) at (table_to sizes.slots (slot_supply sizes (old covered))) }
+    ensures { out.new ≡ written out.old at (table_to sizes.slots (slot_supply sizes covered.now)) }
 {
     let slots = sizes.slots;
     let choosers = sizes.choosers as u32;
@@ -73,7 +72,7 @@ pub fn put_supplies<'a>(
     out: &mut [i32],
 )
     requires { Supplying sizes mins.now covered.now (length out.old) }
-    ensures { new out ≡ written (old out) 0 (supplies sizes (old entries) (old mins) (old covered)) }
+    ensures { out.new ≡ written out.old 0 (supplies sizes entries.now mins.now covered.now) }
 {
     let n = sizes.choosers * sizes.slots;
     put_chooser_supplies(out, n);

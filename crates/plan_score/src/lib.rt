@@ -2,7 +2,6 @@
 #![tactic(auto)]
 
 ghost use Rattle.std.specs.Prelude.{◌≡◌, not, ◌&&◌, ◌||◌, ◌+◌, ◌≤◌, eqb, length};
-ghost use Rattle.counting.specs.Lent.{old};
 ghost use Rattle.input_data.specs.Bytes.{IsDay, day_of};
 ghost use Rattle.plan_score.specs.Evaluate.{major_of, score_of, finite_or_infinite, evaluated};
 ghost use Rattle.plan_score.specs.Laws.{Weighed, Evaluable};
@@ -32,7 +31,7 @@ fn finite_or_infinite(s: Score) -> Score
 // The score of a feasible plan.
 fn score_of(day: &[u8], greedy: bool, preferences: &[u32], powers: &[f32], plan: &[u8]) -> Score
     requires { IsDay day.now × Weighed (day_of day.now) preferences.now (length powers.now) plan.now }
-    ensures { result ≡ finite_or_infinite (score_of (day_of (old day)) greedy (old preferences) (old powers) (old plan)) }
+    ensures { result ≡ finite_or_infinite (score_of (day_of day.now) greedy preferences.now powers.now plan.now) }
 {
     let choosers = input_data::choosers(day);
     let choices = input_data::choices(day);
@@ -56,7 +55,7 @@ pub fn evaluate_plan(
     plan: &[u8],
 ) -> Score
     requires { Evaluable day.now preferences.now (length powers.now) entries.now plan.now }
-    ensures { result ≡ evaluated (day_of (old day)) greedy (old preferences) (old powers) (old entries) (old plan) }
+    ensures { result ≡ evaluated (day_of day.now) greedy preferences.now powers.now entries.now plan.now }
 {
     if feasibility::plan_holds(day, entries, plan) {
         return score_of(day, greedy, preferences, powers, plan);

@@ -5,7 +5,7 @@ use Rattle.std.proofs.Common.{sym, subst, ◌∙◌, arith, eqb-true, eq-eqb, ne
 use Rattle.std.proofs.Math.Path.{ap}
 use Rattle.std.proofs.Math.Bool.{not}
 use mathlib.Core.List.{List, [], ◌∷◌, ◌++◌}
-use Rattle.std.proofs.Math.Logic.{Iff·trans}
+use Rattle.std.proofs.Math.Logic.Iff.{trans}
 use Rattle.std.proofs.Math.IntN.{pos}
 use Rattle.std.specs.Int.Signed.{mag, non_neg}
 use Rattle.std.proofs.lemmas.Bool.{eqb-false, not-true, not-false}
@@ -185,7 +185,7 @@ module _ (n : ℕ) (vs : List ℤ) (signs : (e : ℕ) → e < n → non_neg (val
   lists_iff [] = (λ t. tt, λ t. (tt, tt))
   lists_iff (l ∷ ls) = let r = lists_iff ls in bool_cases (all_there n l)
       (λ e. let s = even_same l e in rw e (λ t. (s.0 t.1.0, r.0 (t.0, t.1.1)), λ t. let q = r.1 t.1 in (q.0, (s.1 t.0, q.1))))
-      (λ e. let s = Iff·trans (present_zero l) (zero_same l e) in let a = all_append (λ e. value_at vs e ≡ pos 0) (present n l) (blocked_of n ls) in
+      (λ e. let s = trans (present_zero l) (zero_same l e) in let a = all_append (λ e. value_at vs e ≡ pos 0) (present n l) (blocked_of n ls) in
       rw e (λ t. let b = a.0 t.0 in (s.0 b.0, r.0 (b.1, t.1)), λ t. let q = r.1 t.1 in (a.1 (s.1 t.0, q.0), q.1)))
 
 -- ---- which edges are named together

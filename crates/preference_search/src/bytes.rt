@@ -1,6 +1,5 @@
 // A search and what it remembers, lent as bytes: what an answer holds of them.
 ghost use Rattle.std.specs.Prelude.{◌≡◌, length};
-ghost use Rattle.counting.specs.Lent.{old};
 ghost use Rattle.input_data.specs.Bytes.{IsDay, day_of};
 ghost use Rattle.assignment.specs.Calls.{seats};
 ghost use Rattle.assignment.specs.Laws.{Small};
@@ -15,7 +14,7 @@ use scheduling::Scheduling;
 // How many seats a day has.
 pub fn seats(day: &[u8]) -> usize
     requires { IsDay day.now × Small (day_of day.now) }
-    ensures { result ≡ seats (day_of (old day)) }
+    ensures { result ≡ seats (day_of day.now) }
 {
     input_data::choosers(day) * input_data::slots(day)
 }
@@ -23,7 +22,7 @@ pub fn seats(day: &[u8]) -> usize
 // A schedule's bytes as an array.
 fn entries_of(b: &[u8]) -> [u8; 32]
     requires { length b.now ≡ 32 }
-    ensures { result ≡ old b }
+    ensures { result ≡ b.now }
 {
     let mut out = [0u8; 32];
     let mut i = 0;
@@ -37,7 +36,7 @@ fn entries_of(b: &[u8]) -> [u8; 32]
 // A plan's bytes as an array.
 fn plan_of(b: &[u8]) -> [u8; 512]
     requires { length b.now ≡ 512 }
-    ensures { result ≡ old b }
+    ensures { result ≡ b.now }
 {
     let mut out = [0u8; 512];
     let mut i = 0;
@@ -51,7 +50,7 @@ fn plan_of(b: &[u8]) -> [u8; 512]
 // What is remembered, as an answer holds it.
 pub fn cached_of(cached: &[u8]) -> CachedAssignment
     requires { IsCached cached.now }
-    ensures { result ≡ cached_in (old cached) }
+    ensures { result ≡ cached_in cached.now }
 {
     CachedAssignment {
         there: flag(cached, 0),
@@ -66,7 +65,7 @@ pub fn cached_of(cached: &[u8]) -> CachedAssignment
 // What a search knows, with this optimal mark.
 pub fn known_by(search: &[u8], mark: bool) -> Known
     requires { IsSearch search.now }
-    ensures { result ≡ marked (known_by (search_in (old search))) mark }
+    ensures { result ≡ marked (known_by (search_in search.now)) mark }
 {
     Known {
         found: flag(search, 2),

@@ -1,6 +1,5 @@
 // The parts of a step: where a search starts, what an answer teaches, what is left of the range.
 ghost use Rattle.std.specs.Prelude.{true, ◌≡◌, ◌<◌, ◌≤◌, length};
-ghost use Rattle.counting.specs.Lent.{old};
 ghost use Rattle.preference_search.specs.Bytes.{IsSearch, search_in};
 ghost use Rattle.preference_search.specs.Laws.{is_infeasible};
 ghost use Rattle.preference_search.specs.Search.{ends_at, found_at, high_after, is_feasible, learnt, learnt_greedy, low_after, marked, middle, nothing, start_of, told};
@@ -45,7 +44,7 @@ pub fn nothing_known(mark: bool) -> Known
 // A plan that was found at a level.
 pub fn found_at(seats: usize, level: u32, plan: &[u8], mark: bool) -> Known
     requires { seats ≤ length plan.now }
-    ensures { result ≡ found_at seats level (old plan) mark }
+    ensures { result ≡ found_at seats level plan.now mark }
 {
     let kept = assignment::kept_plan(seats, plan);
     Known {
@@ -59,7 +58,7 @@ pub fn found_at(seats: usize, level: u32, plan: &[u8], mark: bool) -> Known
 // What an answer at a level teaches a search.
 pub fn learn(seats: usize, level: u32, search: &[u8], res: LimitSolveResult, plan: &[u8]) -> Known
     requires { IsSearch search.now × (is_feasible res ≡ true → seats ≤ length plan.now) }
-    ensures { result ≡ learnt seats level (known_by (search_in (old search))) (told res (old plan)) }
+    ensures { result ≡ learnt seats level (known_by (search_in search.now)) (told res plan.now) }
 {
     match res {
         LimitSolveResult::Feasible => found_at(seats, level, plan, flag(search, 3)),
@@ -71,7 +70,7 @@ pub fn learn(seats: usize, level: u32, search: &[u8], res: LimitSolveResult, pla
 // What the answer to a greedy ask teaches.
 pub fn learn_greedy(seats: usize, level: u32, res: LimitSolveResult, plan: &[u8]) -> Known
     requires { is_feasible res ≡ true → seats ≤ length plan.now }
-    ensures { result ≡ learnt_greedy seats level (told res (old plan)) }
+    ensures { result ≡ learnt_greedy seats level (told res plan.now) }
 {
     match res {
         LimitSolveResult::Feasible => found_at(seats, level, plan, true),
@@ -123,7 +122,7 @@ pub fn middle_of(low: u32, high: u32) -> u32
 // The first level at or above the bound, else the last index.
 pub fn start_of(levels: &[u32], bound: u32) -> usize
     requires { (0 < length levels.now) × (length levels.now ≤ 256) }
-    ensures { result ≡ start_of (old levels) bound }
+    ensures { result ≡ start_of levels.now bound }
 {
     let last = levels.len() - 1;
     let mut i = 0;

@@ -2,7 +2,6 @@
 #![tactic(auto)]
 
 ghost use Rattle.std.specs.Prelude.{◌&&◌, not, ◌≡◌, eqb};
-ghost use Rattle.counting.specs.Lent.{old};
 ghost use Rattle.input_data.specs.Bytes.{IsDay, day_of};
 ghost use Rattle.input_data.specs.Lengths.{Within};
 ghost use Rattle.assignment.specs.Laws.{Small};
@@ -17,7 +16,7 @@ use preference_search::{LimitSolveResult, is_feasible, seats};
 // 11 of what is remembered, if anything is.
 fn outside_cached(day: &[u8], cached: &[u8]) -> bool
     requires { IsDay day.now × IsCached cached.now }
-    ensures { result ≡ outside_cached (day_of (old day)) (cached_in (old cached)) }
+    ensures { result ≡ outside_cached (day_of day.now) (cached_in cached.now) }
 {
     let outside = scheduling::bad_slots(
         input_data::choices(day),
@@ -30,7 +29,7 @@ fn outside_cached(day: &[u8], cached: &[u8]) -> bool
 // 13 of what is remembered, if anything is.
 fn bad_cached(day: &[u8], cached: &[u8]) -> bool
     requires { IsDay day.now × Small (day_of day.now) × IsCached cached.now }
-    ensures { result ≡ bad_cached (day_of (old day)) (cached_in (old cached)) }
+    ensures { result ≡ bad_cached (day_of day.now) (cached_in cached.now) }
 {
     let choices = input_data::choices(day);
     let there = flag(cached, 0);
@@ -39,7 +38,7 @@ fn bad_cached(day: &[u8], cached: &[u8]) -> bool
 
 fn beside(day: &[u8], levels: &[u32], wrong: bool) -> Beside
     requires { IsDay day.now }
-    ensures { result ≡ beside_levels (day_of (old day)) (old levels) wrong }
+    ensures { result ≡ beside_levels (day_of day.now) levels.now wrong }
 {
     Beside {
         bad_lengths: wrong,
@@ -58,7 +57,7 @@ pub fn begin_number(
     cached: &[u8],
 ) -> u32
     requires { Within limits × IsDay day.now }
-    ensures { result ≡ begin_lent_number limits (old day) (old schedule) (old levels) (old cached) }
+    ensures { result ≡ begin_lent_number limits day.now schedule.now levels.now cached.now }
 {
     let wrong = (schedule.len() != 32) | (cached.len() != 546);
     let number = day_checks::day_number(limits, day, beside(day, levels, wrong), 0);
@@ -78,7 +77,7 @@ pub fn begin_number(
 // 18. `count` is the count of levels.
 fn is_spent(search: &[u8], count: usize) -> bool
     requires { IsSearch search.now }
-    ensures { result ≡ spent (search_in (old search)) count }
+    ensures { result ≡ spent (search_in search.now) count }
 {
     let low = word(search, 16);
     let high = word(search, 20);
@@ -96,7 +95,7 @@ fn wrong_length(feasible: bool, size: usize, plan: usize) -> bool
 // 13 of the told plan and of the best so far.
 fn bad_plans(day: &[u8], search: &[u8], res: LimitSolveResult, plan: &[u8]) -> bool
     requires { Telling day.now search.now res plan.now }
-    ensures { result ≡ bad_plans (day_of (old day)) (search_in (old search)) (told res (old plan)) }
+    ensures { result ≡ bad_plans (day_of day.now) (search_in search.now) (told res plan.now) }
 {
     let choices = input_data::choices(day);
     let seats = seats(day);
@@ -113,7 +112,7 @@ fn bad_plans(day: &[u8], search: &[u8], res: LimitSolveResult, plan: &[u8]) -> b
 // 11, 13 and 18 of what a search holds and is told.
 fn held_number(day: &[u8], search: &[u8], count: usize, res: LimitSolveResult, plan: &[u8]) -> u32
     requires { Telling day.now search.now res plan.now }
-    ensures { result ≡ held_number (day_of (old day)) (search_in (old search)) count (told res (old plan)) }
+    ensures { result ≡ held_number (day_of day.now) (search_in search.now) count (told res plan.now) }
 {
     let choices = input_data::choices(day);
     let outside = scheduling::bad_slots(choices, input_data::slots(day), &search[24..56])
@@ -132,7 +131,7 @@ pub fn tell_number(
     plan: &[u8],
 ) -> u32
     requires { Within limits × IsDay day.now }
-    ensures { result ≡ tell_lent_number limits (old day) (old search) (old levels) (told res (old plan)) }
+    ensures { result ≡ tell_lent_number limits day.now search.now levels.now (told res plan.now) }
 {
     let size = limits.choosers * limits.slots;
     let wrong = wrong_length(is_feasible(res), size, plan.len());

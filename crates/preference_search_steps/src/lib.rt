@@ -2,7 +2,6 @@
 #![tactic(auto)]
 
 ghost use Rattle.std.specs.Prelude.{false, true, ◌≡◌, ◌<◌, ◌≤◌, length};
-ghost use Rattle.counting.specs.Lent.{old};
 ghost use Rattle.preference_search.specs.Bytes.{IsCached, IsSearch, cached_in, search_in};
 ghost use Rattle.preference_search.specs.Laws.{Ranged};
 ghost use Rattle.preference_search.specs.Search.{found_at};
@@ -106,7 +105,7 @@ pub fn go_on(
     cached: CachedAssignment,
 ) -> SearchAnswer
     requires { (high < length levels.now) × (length levels.now ≤ 256) × (asks ≤ 256) }
-    ensures { result ≡ next (old levels) asks start low high entries known cached }
+    ensures { result ≡ next levels.now asks start low high entries known cached }
 {
     if high < low {
         return end(false, asks, start, low, high, entries, known, cached);
@@ -130,7 +129,7 @@ pub fn ask_again(
     mark: bool,
 ) -> SearchAnswer
     requires { IsSearch search.now × Ranged (search_in search.now) levels.now × (low ≤ high) × (high < length levels.now) }
-    ensures { result ≡ asked_again (old levels) (search_in (old search)) low high entries mark }
+    ensures { result ≡ asked_again levels.now (search_in search.now) low high entries mark }
 {
     let m = middle_of(low, high);
     let known = known_by(search, mark);
@@ -161,7 +160,7 @@ pub fn ask_again(
 pub fn recall(seats: usize, greedy: bool, entries: [u8; 32], cached: &[u8]) -> SearchAnswer
     requires { IsCached cached.now × (seats ≤ 512) }
     ensures { result ≡ search_answer 0 0 (search_with false greedy 0 0 0 0 entries
-        (found_at seats 0 (cached_in (old cached)).plan true) (cached_in (old cached))) }
+        (found_at seats 0 (cached_in cached.now).plan true) (cached_in cached.now)) }
 {
     let known = found_at(seats, 0, &cached[34..546], true);
     hand_back(
@@ -182,7 +181,7 @@ pub fn recall(seats: usize, greedy: bool, entries: [u8; 32], cached: &[u8]) -> S
 // The search over levels; without levels it ends at once.
 pub fn begin_levels(levels: &[u32], bound: u32, entries: [u8; 32], cached: &[u8]) -> SearchAnswer
     requires { IsCached cached.now × (length levels.now ≤ 256) }
-    ensures { result ≡ begun_levels (old levels) bound entries (cached_in (old cached)) }
+    ensures { result ≡ begun_levels levels.now bound entries (cached_in cached.now) }
 {
     let known = nothing_known(true);
     let held = cached_of(cached);

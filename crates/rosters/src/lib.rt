@@ -3,7 +3,6 @@
 
 ghost use Rattle.std.specs.Prelude.{◌≡◌, [], ◌∷◌, ◌+◌, ◌≤◌, length};
 ghost use Rattle.counting.specs.Fold.{only_if};
-ghost use Rattle.counting.specs.Lent.{old, new};
 ghost use Rattle.counting.specs.WrittenLaws.{Put, one-buffer};
 ghost use Rattle.input_data.specs.Lengths.{Within, full_day};
 ghost use Rattle.assignment.specs.Plan.{row, choosers_ordered, choices_ordered};
@@ -24,7 +23,7 @@ pub struct RosterAnswer {
 // Stores a value where the test holds.
 fn put_if(test: bool, value: u8, roster: &mut [u8], at: usize) -> usize
     requires { at + length (only_if test (value ∷ [])) ≤ length roster.old }
-    ensures { Put (one-buffer _) (old roster) at (only_if test (value ∷ [])) (new roster) result }
+    ensures { Put (one-buffer _) roster.old at (only_if test (value ∷ [])) roster.new result }
 {
     if test {
         roster[at] = value;
@@ -44,7 +43,7 @@ fn put_row(
     at: usize,
 ) -> usize
     requires { RowIn slots plan.now base choice value at (length roster.old) }
-    ensures { Put (one-buffer _) (old roster) at (row slots (old plan) base choice value) (new roster) result }
+    ensures { Put (one-buffer _) roster.old at (row slots plan.now base choice value) roster.new result }
 {
     let mut to = at;
     let mut s = 0;
@@ -64,7 +63,7 @@ fn put_choosers(
     roster: &mut [u8],
 ) -> usize
     requires { ChoosersIn choosers slots plan.now choice (length roster.old) }
-    ensures { Put (one-buffer _) (old roster) 0 (choosers_ordered choosers slots (old plan) choice) (new roster) result }
+    ensures { Put (one-buffer _) roster.old 0 (choosers_ordered choosers slots plan.now choice) roster.new result }
 {
     let mut at = 0;
     let mut c = 0;
@@ -84,7 +83,7 @@ fn put_choices(
     roster: &mut [u8],
 ) -> usize
     requires { ChoicesIn choices slots plan.now chooser (length roster.old) }
-    ensures { Put (one-buffer _) (old roster) 0 (choices_ordered choices slots (old plan) chooser) (new roster) result }
+    ensures { Put (one-buffer _) roster.old 0 (choices_ordered choices slots plan.now chooser) roster.new result }
 {
     let base = chooser * slots;
     let mut at = 0;
@@ -113,7 +112,7 @@ fn choosers_within(
     roster: &mut [u8],
 ) -> RosterAnswer
     requires { Within limits }
-    ensures { ChoosersOrdered limits (old day) (old plan) choice (old roster) (new roster) result }
+    ensures { ChoosersOrdered limits day.now plan.now choice roster.old roster.new result }
 {
     if day.len() != 2044 {
         return roster_answer(2, 0);
@@ -133,7 +132,7 @@ fn choosers_within(
 
 // The choosers of a choice, each once for each slot in which it has the choice.
 pub fn choosers_ordered(day: &[u8], plan: &[u8], choice: usize, roster: &mut [u8]) -> RosterAnswer
-    ensures { ChoosersOrdered full_day (old day) (old plan) choice (old roster) (new roster) result }
+    ensures { ChoosersOrdered full_day day.now plan.now choice roster.old roster.new result }
 {
     choosers_within(input_data::full_day(), day, plan, choice, roster)
 }
@@ -146,7 +145,7 @@ fn choices_within(
     roster: &mut [u8],
 ) -> RosterAnswer
     requires { Within limits }
-    ensures { ChoicesOrdered limits (old day) (old plan) chooser (old roster) (new roster) result }
+    ensures { ChoicesOrdered limits day.now plan.now chooser roster.old roster.new result }
 {
     if day.len() != 2044 {
         return roster_answer(2, 0);
@@ -166,7 +165,7 @@ fn choices_within(
 
 // The choices of a chooser in order, each once for each slot in which the chooser has it.
 pub fn choices_ordered(day: &[u8], plan: &[u8], chooser: usize, roster: &mut [u8]) -> RosterAnswer
-    ensures { ChoicesOrdered full_day (old day) (old plan) chooser (old roster) (new roster) result }
+    ensures { ChoicesOrdered full_day day.now plan.now chooser roster.old roster.new result }
 {
     choices_within(input_data::full_day(), day, plan, chooser, roster)
 }

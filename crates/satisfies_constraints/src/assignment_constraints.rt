@@ -1,7 +1,6 @@
 // The assignment constraints of a day, tested on a schedule and a plan.
 ghost use Rattle.std.specs.Prelude.{◌≡◌, ◌+◌, ◌*◌, ◌<◌, ◌≤◌, length};
 ghost use Rattle.counting.specs.Fold.{gate};
-ghost use Rattle.counting.specs.Lent.{old};
 ghost use Rattle.input_data.specs.Bytes.{day_of};
 ghost use Rattle.assignment.specs.Plan.{is_in_choice};
 ghost use Rattle.satisfies_constraints.specs.Constraints.{times_in, same_choosers, same_choices, assignment_in};
@@ -22,7 +21,7 @@ fn once(seated: bool) -> u32
 // How often a chooser has a choice.
 pub fn times_in(slots: usize, plan: &[u8], chooser: usize, choice: usize) -> u32
     requires { (slots ≤ 8) × (chooser < 64) × (chooser * slots + slots ≤ length plan.now) }
-    ensures { result ≡ times_in slots (old plan) chooser choice }
+    ensures { result ≡ times_in slots plan.now chooser choice }
 {
     let base = chooser * slots;
     let mut times = 0;
@@ -37,7 +36,7 @@ pub fn times_in(slots: usize, plan: &[u8], chooser: usize, choice: usize) -> u32
 // Whether two choices have the same choosers, each as often.
 fn same_choosers(choosers: usize, slots: usize, plan: &[u8], a: usize, b: usize) -> bool
     requires { InPlan choosers slots (length plan.now) }
-    ensures { result ≡ same_choosers choosers slots (old plan) a b }
+    ensures { result ≡ same_choosers choosers slots plan.now a b }
 {
     let mut same = true;
     let mut c = 0;
@@ -58,7 +57,7 @@ fn same_choices(
     b: usize,
 ) -> bool
     requires { InPlan choosers slots (length plan.now) × (a < choosers) × (b < choosers) }
-    ensures { result ≡ same_choices choices slots (old plan) a b }
+    ensures { result ≡ same_choices choices slots plan.now a b }
 {
     let mut same = true;
     let mut k = 0;
@@ -72,7 +71,7 @@ fn same_choices(
 // Whether a chooser has a choice in some slot.
 fn is_in(slots: usize, plan: &[u8], chooser: usize, choice: usize) -> bool
     requires { (slots ≤ 8) × (chooser < 64) × (chooser * slots + slots ≤ length plan.now) }
-    ensures { result ≡ is_in_choice slots (old plan) chooser choice }
+    ensures { result ≡ is_in_choice slots plan.now chooser choice }
 {
     assignment::has_seat(slots, plan, chooser * slots, choice)
 }
@@ -89,7 +88,7 @@ fn meets_plan(
     right: usize,
 ) -> bool
     requires { InPlan choosers slots (length plan.now) × (length entries.now ≡ 32) × OperandsIn choosers kind left right }
-    ensures { result ≡ meets_plan choosers choices slots (old entries) (old plan) kind left right }
+    ensures { result ≡ meets_plan choosers choices slots entries.now plan.now kind left right }
 {
     let scheduled = entry_of(entries, right) != 0;
     if kind == 65536 {
@@ -117,7 +116,7 @@ pub fn assignment_met(
     day: &[u8],
 ) -> bool
     requires { PlanRead choosers choices slots entries.now plan.now day.now }
-    ensures { result ≡ assignment_in choosers choices slots (old entries) (old plan) (day_of (old day)).assignment }
+    ensures { result ≡ assignment_in choosers choices slots entries.now plan.now (day_of day.now).assignment }
 {
     let count = input_data::assignment_count(day);
     let mut met = true;

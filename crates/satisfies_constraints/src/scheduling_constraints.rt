@@ -2,7 +2,6 @@
 ghost use Rattle.std.specs.Prelude.{◌≡◌, suc, ◌<◌, ◌≤◌, length, eqb};
 ghost use Rattle.counting.specs.Fold.{gate, count_to};
 ghost use Rattle.counting.specs.Holds.{is_of};
-ghost use Rattle.counting.specs.Lent.{old};
 ghost use Rattle.input_data.specs.Bytes.{day_of};
 ghost use Rattle.scheduling.specs.Schedule.{entry_at};
 ghost use Rattle.satisfies_constraints.specs.Constraints.{apart, has_offset, size_of, scheduling_in};
@@ -14,7 +13,7 @@ use scheduling::SlotOf;
 // The entry of a choice, or none.
 pub fn entry_of(entries: &[u8; 32], k: usize) -> u8
     requires { length entries.now ≡ 32 }
-    ensures { result ≡ entry_at (old entries) k }
+    ensures { result ≡ entry_at entries.now k }
 {
     if k < 32 {
         return entries[k];
@@ -79,7 +78,7 @@ fn counted(names: bool) -> u8
 // How many of the first entries are `want`. All is in bytes, so that the walk is quick.
 fn count_entries(choices: usize, entries: &[u8; 32], want: u8) -> u8
     requires { choices ≤ 32 }
-    ensures { (result ≡ count_to choices (is_of (entry_at (old entries)) want)) × (result ≤ 32) }
+    ensures { (result ≡ count_to choices (is_of (entry_at entries.now) want)) × (result ≤ 32) }
 {
     let mut size = 0;
     let mut k = 0;
@@ -93,7 +92,7 @@ fn count_entries(choices: usize, entries: &[u8; 32], want: u8) -> u8
 // How many choices a slot has.
 fn size_of(choices: usize, entries: &[u8; 32], slot: usize) -> usize
     requires { (choices ≤ 32) × (slot < 255) }
-    ensures { result ≡ size_of choices (old entries) slot }
+    ensures { result ≡ size_of choices entries.now slot }
 {
     count_entries(choices, entries, slot as u8 + 1) as usize
 }
@@ -108,7 +107,7 @@ fn meets_schedule(
     extra: i32,
 ) -> bool
     requires { (choices ≤ 32) × (length entries.now ≡ 32) × SlotLeft kind left }
-    ensures { result ≡ meets_schedule choices (old entries) kind left right extra }
+    ensures { result ≡ meets_schedule choices entries.now kind left right extra }
 {
     let a = entry_of(entries, left);
     let b = entry_of(entries, right);
@@ -134,7 +133,7 @@ fn meets_schedule(
 // those of accepted constraints are taken as they stand.
 pub fn scheduling_met(choices: usize, entries: &[u8; 32], day: &[u8]) -> bool
     requires { ScheduleRead choices entries.now day.now }
-    ensures { result ≡ scheduling_in choices (old entries) (day_of (old day)).scheduling }
+    ensures { result ≡ scheduling_in choices entries.now (day_of day.now).scheduling }
 {
     let count = input_data::scheduling_count(day);
     let mut met = true;

@@ -1,6 +1,5 @@
 // A state lent as bytes, as a struct, for calls that read it many times.
 ghost use Rattle.std.specs.Prelude.{◌≡◌, take};
-ghost use Rattle.counting.specs.Lent.{old};
 ghost use Rattle.schedule_state.specs.Bytes.{IsState, state_in};
 
 use crate::AssignmentScheduleState;
@@ -9,7 +8,7 @@ use scheduling::Scheduling;
 
 fn entries_of(state: &[u8]) -> [u8; 32]
     requires { IsState state.now }
-    ensures { result ≡ take 32 (old state) }
+    ensures { result ≡ take 32 state.now }
 {
     let mut out = [0u8; 32];
     let mut i = 0;
@@ -22,7 +21,7 @@ fn entries_of(state: &[u8]) -> [u8; 32]
 
 fn covered_of(state: &[u8]) -> [u32; 8]
     requires { IsState state.now }
-    ensures { result ≡ (state_in (old state)).covered }
+    ensures { result ≡ (state_in state.now).covered }
 {
     let mut out = [0u32; 8];
     let mut i = 0;
@@ -35,7 +34,7 @@ fn covered_of(state: &[u8]) -> [u32; 8]
 
 fn blocks_of(state: &[u8]) -> [bool; 2048]
     requires { IsState state.now }
-    ensures { result ≡ (state_in (old state)).blocks }
+    ensures { result ≡ (state_in state.now).blocks }
 {
     let mut out = [false; 2048];
     let mut i = 0;
@@ -48,7 +47,7 @@ fn blocks_of(state: &[u8]) -> [bool; 2048]
 
 pub fn state_of(state: &[u8]) -> AssignmentScheduleState
     requires { IsState state.now }
-    ensures { result ≡ state_in (old state) }
+    ensures { result ≡ state_in state.now }
 {
     let schedule = Scheduling {
         entries: entries_of(state),

@@ -1,7 +1,6 @@
 // Check 12: a state that is handed in is held against its own schedule.
 ghost use Rattle.std.specs.Prelude.{◌≡◌, ◌<◌, ◌≤◌, length};
 ghost use Rattle.counting.specs.Fold.{any_to};
-ghost use Rattle.counting.specs.Lent.{old};
 ghost use Rattle.input_data.specs.Bytes.{IsDay, day_of};
 ghost use Rattle.schedule_state.specs.Bytes.{IsState, block_in, state_in};
 ghost use Rattle.schedule_state.specs.State.{unlike, unlike_at, cells_of, misblocked_row, misblocked, misblocked_in, sums_of, miscounted_in, inconsistent};
@@ -19,7 +18,7 @@ fn is_unlike(a: bool, b: bool) -> bool
 // Whether a state's blocks are not those of a table for a chooser, in the day's choices.
 fn row_differs(state: &[u8], right: &[bool; 2048], chooser: usize, choices: usize) -> bool
     requires { IsState state.now × (chooser < 64) × (choices ≤ 32) }
-    ensures { result ≡ misblocked_row (cells_of (old right)) choices (state_in (old state)).blocks chooser }
+    ensures { result ≡ misblocked_row (cells_of right.now) choices (state_in state.now).blocks chooser }
 {
     let base = 32 * chooser;
     let mut bad = false;
@@ -35,7 +34,7 @@ fn row_differs(state: &[u8], right: &[bool; 2048], chooser: usize, choices: usiz
 // Whether they differ anywhere. No early exit, so that the walk is quick.
 fn tables_differ(state: &[u8], right: &[bool; 2048]) -> bool
     requires { IsState state.now }
-    ensures { result ≡ any_to 2048 (unlike_at (state_in (old state)).blocks (old right)) }
+    ensures { result ≡ any_to 2048 (unlike_at (state_in state.now).blocks right.now) }
 {
     let mut bad = false;
     let mut p = 0;
@@ -50,7 +49,7 @@ fn tables_differ(state: &[u8], right: &[bool; 2048]) -> bool
 // that were handed out, need no closer look.
 fn blocks_differ(state: &[u8], right: &[bool; 2048], choosers: usize, choices: usize) -> bool
     requires { IsState state.now × (choosers ≤ 64) × (choices ≤ 32) }
-    ensures { result ≡ misblocked (cells_of (old right)) choosers choices (state_in (old state)).blocks }
+    ensures { result ≡ misblocked (cells_of right.now) choosers choices (state_in state.now).blocks }
 {
     if !tables_differ(state, right) {
         return false;
@@ -67,7 +66,7 @@ fn blocks_differ(state: &[u8], right: &[bool; 2048], choosers: usize, choices: u
 // Whether anything is blocked in a state.
 fn any_blocked(state: &[u8]) -> bool
     requires { IsState state.now }
-    ensures { result ≡ any_to 2048 (block_in (old state)) }
+    ensures { result ≡ any_to 2048 (block_in state.now) }
 {
     let mut any = false;
     let mut p = 0;
@@ -81,7 +80,7 @@ fn any_blocked(state: &[u8]) -> bool
 // Whether a state's blocks are not those of its schedule. Without assignment constraints nothing is blocked.
 fn is_misblocked(day: &[u8], state: &[u8], entries: &[u8; 32]) -> bool
     requires { IsDay day.now × IsState state.now × Small (day_of day.now) }
-    ensures { result ≡ misblocked_in (day_of (old day)) (old entries) (state_in (old state)).blocks }
+    ensures { result ≡ misblocked_in (day_of day.now) entries.now (state_in state.now).blocks }
 {
     if input_data::assignment_count(day) == 0 {
         if !any_blocked(state) {
@@ -101,7 +100,7 @@ fn is_misblocked(day: &[u8], state: &[u8], entries: &[u8; 32]) -> bool
 // Whether a state's covered counts are not these sums, in one of the day's slots.
 fn sums_differ(state: &[u8], right: &[u32; 8], slots: usize) -> bool
     requires { IsState state.now × (slots ≤ 8) }
-    ensures { result ≡ miscounted_in (sums_of (old right)) slots (state_in (old state)).covered }
+    ensures { result ≡ miscounted_in (sums_of right.now) slots (state_in state.now).covered }
 {
     let mut bad = false;
     let mut s = 0;
@@ -123,7 +122,7 @@ pub fn is_inconsistent(
     lists: &[u8],
 ) -> bool
     requires { Holdable limits day.now state.now entries.now lens.now covered.now (length lists.now) }
-    ensures { result ≡ inconsistent limits (day_of (old day)) (state_in (old state)) (old lists) }
+    ensures { result ≡ inconsistent limits (day_of day.now) (state_in state.now) lists.now }
 {
     let n = input_data::choices(day);
     let slots = input_data::slots(day);

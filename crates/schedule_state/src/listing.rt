@@ -1,6 +1,5 @@
 // The list of a slot, as a part of the lent buffer.
 ghost use Rattle.std.specs.Prelude.{◌+◌, ◌*◌, ◌≤◌, length, take, drop};
-ghost use Rattle.counting.specs.Lent.{old};
 ghost use Rattle.schedule_state.specs.Calls.{PartOf};
 
 // A slot's list: the number, where the list starts in the lent buffer, and its length; zeros where the call is refused.
@@ -15,7 +14,7 @@ pub struct SlotListAnswer {
 // The first `len` bytes of a slot's part of the buffer: its list. The model is built and decoded from these.
 pub fn list_front<'a>(lists: &'a [u8], stride: usize, slot: usize, len: usize) -> &'a [u8]
     requires { (len ≤ stride) × (stride * slot + stride ≤ length lists.now) }
-    ensures { PartOf lists.entry (stride * slot) (take len (drop (stride * slot) (old lists))) result }
+    ensures { PartOf lists.entry (stride * slot) (take len (drop (stride * slot) lists.now)) result }
 {
     let a = stride * slot;
     let e = a + len;

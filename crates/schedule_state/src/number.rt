@@ -1,6 +1,5 @@
 // The number of a call that is handed a state.
 ghost use Rattle.std.specs.Prelude.{◌≡◌, length, replicate};
-ghost use Rattle.counting.specs.Lent.{old, new};
 ghost use Rattle.input_data.specs.Bytes.{IsDay, day_of, wider};
 ghost use Rattle.input_data.specs.Lengths.{Within};
 ghost use Rattle.slot_lists.specs.SumsLaws.{Unweighed};
@@ -45,7 +44,7 @@ pub fn test_state(
     covered: &mut [u32; 8],
 ) -> u32
     requires { IsDay day.now × Handed limits beside state.now (length lists.now) × Unweighed lens.old covered.old }
-    ensures { Found limits (day_of (old day)) (state_in (old state)) beside also (old lists) (new lens) (new covered) result }
+    ensures { Found limits (day_of day.now) (state_in state.now) beside also lists.now lens.new covered.new result }
 {
     let number = day_checks::day_number(limits, day, beside, 0);
     if number != 0 {
@@ -73,7 +72,7 @@ pub fn state_number(
     lists: &[u8],
 ) -> u32
     requires { IsDay day.now × Handed limits beside state.now (length lists.now) }
-    ensures { result ≡ state_number limits (day_of (old day)) (state_in (old state)) beside also (old lists) }
+    ensures { result ≡ state_number limits (day_of day.now) (state_in state.now) beside also lists.now }
 {
     let mut lens = [0u32; 8];
     let mut covered = [0u32; 8];

@@ -1,6 +1,5 @@
 // The list of a slot, as a part of the lent buffer.
 ghost use Rattle.std.specs.Prelude.{◌≡◌};
-ghost use Rattle.counting.specs.Lent.{old};
 ghost use Rattle.input_data.specs.Lengths.{Within, full_day};
 ghost use Rattle.schedule_state.specs.Calls.{list_refused, slot_list_lent, slot_list_answer, HandsBack};
 
@@ -25,7 +24,7 @@ fn answer_within(
     slot: usize,
 ) -> SlotListAnswer
     requires { Within limits }
-    ensures { result ≡ slot_list_answer limits (old day) (old state) slot (old lists) }
+    ensures { result ≡ slot_list_answer limits day.now state.now slot lists.now }
 {
     if day.len() != 2044 {
         return refuse(2);
@@ -60,14 +59,14 @@ fn answer_within(
 
 // Where a slot's list stands in the caller's buffer.
 pub fn slot_list_answer(day: &[u8], state: &[u8], lists: &[u8], slot: usize) -> SlotListAnswer
-    ensures { result ≡ slot_list_answer full_day (old day) (old state) slot (old lists) }
+    ensures { result ≡ slot_list_answer full_day day.now state.now slot lists.now }
 {
     answer_within(input_data::full_day(), day, state, lists, slot)
 }
 
 // A slot's list: the used front of its part of the caller's buffer; refused, the empty front of the buffer.
 pub fn slot_list<'a>(day: &[u8], state: &[u8], lists: &'a [u8], slot: usize) -> &'a [u8]
-    ensures { HandsBack full_day (old day) (old state) slot lists.entry result }
+    ensures { HandsBack full_day day.now state.now slot lists.entry result }
 {
     let a = slot_list_answer(day, state, lists, slot);
     let start = a.start;
@@ -77,7 +76,7 @@ pub fn slot_list<'a>(day: &[u8], state: &[u8], lists: &'a [u8], slot: usize) -> 
 
 // The number that goes with it.
 pub fn slot_list_number(day: &[u8], state: &[u8], lists: &[u8], slot: usize) -> u32
-    ensures { result ≡ slot_list_lent full_day (old day) (old state) slot (old lists) }
+    ensures { result ≡ slot_list_lent full_day day.now state.now slot lists.now }
 {
     let a = slot_list_answer(day, state, lists, slot);
     a.number

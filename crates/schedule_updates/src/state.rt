@@ -1,6 +1,5 @@
 // Build and update.
 ghost use Rattle.std.specs.Prelude.{◌≡◌, length};
-ghost use Rattle.counting.specs.Lent.{old, new};
 ghost use Rattle.input_data.specs.Bytes.{IsDay, day_of};
 ghost use Rattle.input_data.specs.Lengths.{Within, full_day};
 ghost use Rattle.blocks.specs.BlocksLaws.{Blocking};
@@ -32,7 +31,7 @@ fn refuse(number: u32) -> StateAnswer
 // The answer of an accepted call: a schedule, its covered counts, and its blocks, which are made anew.
 fn made(day: &[u8], entries: &[u8; 32], covered: [u32; 8]) -> StateAnswer
     requires { IsDay day.now × Blocking (day_of day.now).assignment }
-    ensures { result ≡ made_of (day_of (old day)) (old entries) covered }
+    ensures { result ≡ made_of (day_of day.now) entries.now covered }
 {
     let schedule = Scheduling { entries: *entries };
     let mut state = AssignmentScheduleState {
@@ -60,7 +59,7 @@ fn carry_state<'a>(
 ) -> StateAnswer
     requires { IsDay day.now × Carriable limits (day_of day.now) last.now next.now (length lists.old)
         × Summed (day_of day.now) last.now mins.now lens.old covered.old }
-    ensures { StateCarried limits (day_of (old day)) (old last) (old next) (old lists) (new lists) result }
+    ensures { StateCarried limits (day_of day.now) last.now next.now lists.old lists.new result }
 {
     let n = input_data::choices(day);
     carried_lists::carry(lists, lens, covered, limits.choices, n, last, next, mins);
@@ -70,7 +69,7 @@ fn carry_state<'a>(
 // Whether a schedule that is lent beside a day names a slot that the day has not. One of another length names none.
 fn names_outside(day: &[u8], schedule: &[u8]) -> bool
     requires { IsDay day.now }
-    ensures { result ≡ names_outside (day_of (old day)) (old schedule) }
+    ensures { result ≡ names_outside (day_of day.now) schedule.now }
 {
     if schedule.len() != 32 {
         return false;
@@ -80,7 +79,7 @@ fn names_outside(day: &[u8], schedule: &[u8]) -> bool
 
 fn build_number(limits: Limits, day: &[u8], schedule: &[u8], size: usize) -> u32
     requires { Within limits × IsDay day.now }
-    ensures { result ≡ build_lent limits (old day) (old schedule) size }
+    ensures { result ≡ build_lent limits day.now schedule.now size }
 {
     let tested = beside(limits, schedule.len() != 32, size, false);
     let outside = names_outside(day, schedule);
@@ -90,7 +89,7 @@ fn build_number(limits: Limits, day: &[u8], schedule: &[u8], size: usize) -> u32
 // A fresh build within limits: the walk from the schedule in which no choice has a slot.
 fn build_within(limits: Limits, day: &[u8], schedule: &[u8], lists: &mut [u8]) -> StateAnswer
     requires { Within limits }
-    ensures { Built limits (old day) (old schedule) (old lists) (new lists) result }
+    ensures { Built limits day.now schedule.now lists.old lists.new result }
 {
     if day.len() != 2044 {
         return refuse(2);
@@ -125,7 +124,7 @@ fn update_within(
     lists: &mut [u8],
 ) -> StateAnswer
     requires { Within limits }
-    ensures { Updated limits (old day) (old state) (old schedule) (old lists) (new lists) result }
+    ensures { Updated limits day.now state.now schedule.now lists.old lists.new result }
 {
     if day.len() != 2044 {
         return refuse(2);
@@ -166,14 +165,14 @@ fn update_within(
 
 // A fresh build: choices upward, each appended to its slot's list.
 pub fn build(day: &[u8], schedule: &[u8], lists: &mut [u8]) -> StateAnswer
-    ensures { Built full_day (old day) (old schedule) (old lists) (new lists) result }
+    ensures { Built full_day day.now schedule.now lists.old lists.new result }
 {
     build_within(input_data::full_day(), day, schedule, lists)
 }
 
 // An update: the lists follow the choices that move, the blocks are made anew.
 pub fn update(day: &[u8], state: &[u8], schedule: &[u8], lists: &mut [u8]) -> StateAnswer
-    ensures { Updated full_day (old day) (old state) (old schedule) (old lists) (new lists) result }
+    ensures { Updated full_day day.now state.now schedule.now lists.old lists.new result }
 {
     update_within(input_data::full_day(), day, state, schedule, lists)
 }

@@ -2,7 +2,6 @@
 #![tactic(auto)]
 
 ghost use Rattle.std.specs.Prelude.{true, ◌&&◌, ◌≡◌, length};
-ghost use Rattle.counting.specs.Lent.{old};
 ghost use Rattle.scheduling.specs.Schedule.{slot_in, bad_entry, bad_slots, kept};
 
 use counting::at_most;
@@ -41,7 +40,7 @@ fn bad_entry(slots: usize, entry: u8) -> bool
 // 11. A schedule names a slot that the day has not.
 pub fn bad_slots(choices: usize, slots: usize, entries: &[u8]) -> bool
     requires { length entries.now ≡ 32 }
-    ensures { result ≡ bad_slots choices slots (old entries) }
+    ensures { result ≡ bad_slots choices slots entries.now }
 {
     let n = at_most(32, choices);
     let mut bad = false;
@@ -56,7 +55,7 @@ pub fn bad_slots(choices: usize, slots: usize, entries: &[u8]) -> bool
 // The same of a schedule that is there.
 pub fn bad_slots_if(there: bool, choices: usize, slots: usize, entries: &[u8]) -> bool
     requires { there ≡ true → length entries.now ≡ 32 }
-    ensures { result ≡ (there && bad_slots choices slots (old entries)) }
+    ensures { result ≡ (there && bad_slots choices slots entries.now) }
 {
     if there {
         return bad_slots(choices, slots, entries);
@@ -67,7 +66,7 @@ pub fn bad_slots_if(there: bool, choices: usize, slots: usize, entries: &[u8]) -
 // The schedule as it is handed back: none past the day's choices.
 pub fn kept(choices: usize, entries: &[u8]) -> [u8; 32]
     requires { length entries.now ≡ 32 }
-    ensures { result ≡ kept choices (old entries) }
+    ensures { result ≡ kept choices entries.now }
 {
     let n = at_most(32, choices);
     let mut out = [0u8; 32];

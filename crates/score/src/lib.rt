@@ -5,7 +5,6 @@ ghost use Rattle.std.specs.Prelude.{◌≡◌, cond, ◌+◌, ◌*◌, ◌<◌, 
 ghost use Rattle.std.specs.Float.{nan, binary32};
 ghost use Rattle.std.specs.Float.Ieee.{is_nan, to_bits};
 ghost use Rattle.std.specs.Float.Ieee.Scale.{finite};
-ghost use Rattle.counting.specs.Lent.{old};
 ghost use Rattle.score.specs.TotalOrder.{neg_zero, pos_zero};
 ghost use Rattle.score.specs.Order.{infinite_twice, finite_score, score_order, order_number, is_less};
 ghost use Rattle.score.specs.Before.{is_before, plain_order, beats_held};
@@ -207,7 +206,7 @@ fn pick_place(test: bool, yes: usize, no: usize) -> usize
 // The score at a place of a list of floats: major, minor, major, minor, ..
 fn score_at(floats: &[f32], place: usize) -> Score
     requires { (place < 64) × (2 * place + 1 < length floats.now) }
-    ensures { result ≡ score_at (old floats) place }
+    ensures { result ≡ score_at floats.now place }
 {
     let at = 2 * place;
     Score {
@@ -219,7 +218,7 @@ fn score_at(floats: &[f32], place: usize) -> Score
 // The best of at least one score, read where it lies. What is held stays apart in numbers, so that no step waits for memory.
 fn best_among(floats: &[f32], count: usize) -> Ranked
     requires { (0 < count) × (count ≤ 64) × (length floats.now ≡ 2 * count) }
-    ensures { result ≡ best_to (scores_in (old floats) count) (count - 1) }
+    ensures { result ≡ best_to (scores_in floats.now count) (count - 1) }
 {
     let mut held = score_at(floats, 0);
     let mut fine = held.is_finite();
@@ -251,7 +250,7 @@ fn refuse(number: u32) -> BestAnswer
 
 // The best of `count` scores, listed as major, minor, major, minor, ..; 1 where these are more than 64, and 2 where they are not listed exactly.
 pub fn best(floats: &[f32], count: usize) -> BestAnswer
-    ensures { result ≡ best_in (old floats) count }
+    ensures { result ≡ best_in floats.now count }
 {
     if count > 64 {
         return refuse(1);

@@ -1,6 +1,5 @@
 // Scoring::evaluate.
 ghost use Rattle.std.specs.Prelude.{◌≡◌};
-ghost use Rattle.counting.specs.Lent.{old};
 ghost use Rattle.input_data.specs.Bytes.{day_of, wider};
 ghost use Rattle.input_data.specs.Lengths.{Within, full_day};
 ghost use Rattle.scoring.specs.Calls.{beside_tables, zero_score, score_answer, evaluate_lent_number, evaluate_lent};
@@ -22,7 +21,7 @@ fn beside_tables(
     plan: usize,
 ) -> Beside
     requires { Multiplied limits day.now }
-    ensures { result ≡ wider wrong (beside_tables limits (day_of (old day)) there (old preferences) powers plan) }
+    ensures { result ≡ wider wrong (beside_tables limits (day_of day.now) there preferences.now powers plan) }
 {
     let most = input_data::max_preference(day);
     let cells = input_data::choosers(day) * input_data::choices(day);
@@ -55,7 +54,7 @@ fn evaluate_number(
     powers: usize,
 ) -> u32
     requires { Within limits }
-    ensures { result ≡ evaluate_lent_number limits (old day) solution (old schedule) (old plan) (old preferences) powers }
+    ensures { result ≡ evaluate_lent_number limits day.now solution schedule.now plan.now preferences.now powers }
 {
     if day.len() != 2044 {
         return 2;
@@ -109,7 +108,7 @@ fn evaluate_within(
     powers: &[f32],
 ) -> ScoreAnswer
     requires { Within limits }
-    ensures { result ≡ evaluate_lent limits (old day) solution (old schedule) (old plan) greedy (old preferences) (old powers) }
+    ensures { result ≡ evaluate_lent limits day.now solution schedule.now plan.now greedy preferences.now powers.now }
 {
     let size = powers.len();
     let number = evaluate_number(limits, day, solution, schedule, plan, preferences, size);
@@ -136,7 +135,7 @@ pub fn evaluate(
     preferences: &[u32],
     powers: &[f32],
 ) -> ScoreAnswer
-    ensures { result ≡ evaluate_lent full_day (old day) solution (old schedule) (old plan) greedy (old preferences) (old powers) }
+    ensures { result ≡ evaluate_lent full_day day.now solution schedule.now plan.now greedy preferences.now powers.now }
 {
     let limits = input_data::full_day();
     evaluate_within(

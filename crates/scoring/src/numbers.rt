@@ -1,6 +1,5 @@
 // The numbers of the verdict's calls, and their answers.
 ghost use Rattle.std.specs.Prelude.{◌≡◌};
-ghost use Rattle.counting.specs.Lent.{old};
 ghost use Rattle.input_data.specs.Lengths.{Within};
 ghost use Rattle.scoring.specs.Calls.{verdict, schedule_lent_number, verdict_lent_number};
 
@@ -17,7 +16,7 @@ pub fn answer(number: u32, holds: bool) -> VerdictAnswer
 }
 
 pub fn schedule_number(limits: Limits, day: &[u8], schedule: &[u8]) -> u32
-    ensures { result ≡ schedule_lent_number limits (old day) (old schedule) }
+    ensures { result ≡ schedule_lent_number limits day.now schedule.now }
 {
     if day.len() != 2044 {
         return 2;
@@ -39,7 +38,7 @@ pub fn schedule_number(limits: Limits, day: &[u8], schedule: &[u8]) -> u32
 
 pub fn verdict_number(limits: Limits, day: &[u8], schedule: &[u8], plan: &[u8]) -> u32
     requires { Within limits }
-    ensures { result ≡ verdict_lent_number limits (old day) (old schedule) (old plan) }
+    ensures { result ≡ verdict_lent_number limits day.now schedule.now plan.now }
 {
     if day.len() != 2044 {
         return 2;

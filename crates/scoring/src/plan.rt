@@ -1,6 +1,5 @@
 // The verdict on a plan: satisfies_constraints_assignment, and Scoring::is_feasible.
 ghost use Rattle.std.specs.Prelude.{◌≡◌};
-ghost use Rattle.counting.specs.Lent.{old};
 ghost use Rattle.input_data.specs.Lengths.{Within, full_day};
 ghost use Rattle.scoring.specs.Calls.{assignment_lent, plan_lent};
 
@@ -10,7 +9,7 @@ use input_data::Limits;
 
 fn assignment_within(limits: Limits, day: &[u8], schedule: &[u8], plan: &[u8]) -> VerdictAnswer
     requires { Within limits }
-    ensures { result ≡ assignment_lent limits (old day) (old schedule) (old plan) }
+    ensures { result ≡ assignment_lent limits day.now schedule.now plan.now }
 {
     let number = verdict_number(limits, day, schedule, plan);
     if number != 0 {
@@ -22,14 +21,14 @@ fn assignment_within(limits: Limits, day: &[u8], schedule: &[u8], plan: &[u8]) -
 
 // Whether the plan meets every assignment constraint of the day.
 pub fn satisfies_constraints_assignment(day: &[u8], schedule: &[u8], plan: &[u8]) -> VerdictAnswer
-    ensures { result ≡ assignment_lent full_day (old day) (old schedule) (old plan) }
+    ensures { result ≡ assignment_lent full_day day.now schedule.now plan.now }
 {
     assignment_within(input_data::full_day(), day, schedule, plan)
 }
 
 fn plan_within(limits: Limits, day: &[u8], schedule: &[u8], plan: &[u8]) -> VerdictAnswer
     requires { Within limits }
-    ensures { result ≡ plan_lent limits (old day) (old schedule) (old plan) }
+    ensures { result ≡ plan_lent limits day.now schedule.now plan.now }
 {
     let number = verdict_number(limits, day, schedule, plan);
     if number != 0 {
@@ -41,7 +40,7 @@ fn plan_within(limits: Limits, day: &[u8], schedule: &[u8], plan: &[u8]) -> Verd
 
 // Scoring::is_feasible.
 pub fn is_feasible(day: &[u8], schedule: &[u8], plan: &[u8]) -> VerdictAnswer
-    ensures { result ≡ plan_lent full_day (old day) (old schedule) (old plan) }
+    ensures { result ≡ plan_lent full_day day.now schedule.now plan.now }
 {
     plan_within(input_data::full_day(), day, schedule, plan)
 }

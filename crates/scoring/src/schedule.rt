@@ -1,6 +1,5 @@
 // The verdict on a schedule: satisfies_constraints_scheduling, and Scheduling::is_feasible.
 ghost use Rattle.std.specs.Prelude.{◌≡◌};
-ghost use Rattle.counting.specs.Lent.{old};
 ghost use Rattle.input_data.specs.Lengths.{Within, full_day};
 ghost use Rattle.scoring.specs.Calls.{scheduling_lent, schedule_lent};
 
@@ -10,7 +9,7 @@ use input_data::Limits;
 
 fn scheduling_within(limits: Limits, day: &[u8], schedule: &[u8]) -> VerdictAnswer
     requires { Within limits }
-    ensures { result ≡ scheduling_lent limits (old day) (old schedule) }
+    ensures { result ≡ scheduling_lent limits day.now schedule.now }
 {
     let number = schedule_number(limits, day, schedule);
     if number != 0 {
@@ -26,14 +25,14 @@ fn scheduling_within(limits: Limits, day: &[u8], schedule: &[u8]) -> VerdictAnsw
 
 // Whether the schedule meets every scheduling constraint of the day.
 pub fn satisfies_constraints_scheduling(day: &[u8], schedule: &[u8]) -> VerdictAnswer
-    ensures { result ≡ scheduling_lent full_day (old day) (old schedule) }
+    ensures { result ≡ scheduling_lent full_day day.now schedule.now }
 {
     scheduling_within(input_data::full_day(), day, schedule)
 }
 
 fn schedule_within(limits: Limits, day: &[u8], schedule: &[u8]) -> VerdictAnswer
     requires { Within limits }
-    ensures { result ≡ schedule_lent limits (old day) (old schedule) }
+    ensures { result ≡ schedule_lent limits day.now schedule.now }
 {
     let number = schedule_number(limits, day, schedule);
     if number != 0 {
@@ -45,7 +44,7 @@ fn schedule_within(limits: Limits, day: &[u8], schedule: &[u8]) -> VerdictAnswer
 
 // Scheduling::is_feasible.
 pub fn schedule_is_feasible(day: &[u8], schedule: &[u8]) -> VerdictAnswer
-    ensures { result ≡ schedule_lent full_day (old day) (old schedule) }
+    ensures { result ≡ schedule_lent full_day day.now schedule.now }
 {
     schedule_within(input_data::full_day(), day, schedule)
 }

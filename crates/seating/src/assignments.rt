@@ -1,6 +1,5 @@
 // The entries over plans.
 ghost use Rattle.std.specs.Prelude.{◌≡◌};
-ghost use Rattle.counting.specs.Lent.{old, new};
 ghost use Rattle.input_data.specs.Lengths.{full_day};
 ghost use Rattle.assignment.specs.Calls.{in_choice_lent, choice_lent};
 ghost use Rattle.rosters.specs.Calls.{ChoosersOrdered, ChoicesOrdered};
@@ -15,7 +14,7 @@ pub extern "C" fn cendravoka_choosers_ordered(
     choice: usize,
     roster: &mut [u8],
 ) -> RosterAnswer
-    ensures { ChoosersOrdered full_day (old day) (old plan) choice (old roster) (new roster) result }
+    ensures { ChoosersOrdered full_day day.now plan.now choice roster.old roster.new result }
 {
     rosters::choosers_ordered(day, plan, choice, roster)
 }
@@ -27,7 +26,7 @@ pub extern "C" fn cendravoka_choices_ordered(
     chooser: usize,
     roster: &mut [u8],
 ) -> RosterAnswer
-    ensures { ChoicesOrdered full_day (old day) (old plan) chooser (old roster) (new roster) result }
+    ensures { ChoicesOrdered full_day day.now plan.now chooser roster.old roster.new result }
 {
     rosters::choices_ordered(day, plan, chooser, roster)
 }
@@ -39,7 +38,7 @@ pub extern "C" fn cendravoka_is_in_choice(
     chooser: usize,
     choice: usize,
 ) -> InChoiceAnswer
-    ensures { result ≡ in_choice_lent full_day (old day) (old plan) chooser choice }
+    ensures { result ≡ in_choice_lent full_day day.now plan.now chooser choice }
 {
     assignment::is_in_choice(day, plan, chooser, choice)
 }
@@ -51,7 +50,7 @@ pub extern "C" fn cendravoka_choice_of(
     chooser: usize,
     slot: usize,
 ) -> ChoiceAnswer
-    ensures { result ≡ choice_lent full_day (old day) (old plan) chooser slot }
+    ensures { result ≡ choice_lent full_day day.now plan.now chooser slot }
 {
     assignment::choice_of(day, plan, chooser, slot)
 }

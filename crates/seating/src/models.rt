@@ -1,5 +1,4 @@
 // The entries that build a model and check values against it.
-ghost use Rattle.counting.specs.Lent.{old, new};
 ghost use Rattle.input_data.specs.Lengths.{full_day};
 ghost use Rattle.model_buffers.specs.Buffers.{buffers};
 ghost use Rattle.flow_model.specs.Lent.{lent_input};
@@ -24,9 +23,9 @@ pub extern "C" fn cendravoka_model(
     ends: &mut [u16],
     blocked: &mut [u16],
 ) -> ModelAnswer
-    ensures { ModelLent full_day (old day) (old state) (lent_input (old day) (old state) limit (old preferences) (old costs) (old lists))
-        (buffers (old supplies) (old from) (old to) (old max) (old cost) (old entries) (old ends) (old blocked))
-        (buffers (new supplies) (new from) (new to) (new max) (new cost) (new entries) (new ends) (new blocked)) result }
+    ensures { ModelLent full_day day.now state.now (lent_input day.now state.now limit preferences.now costs.now lists.now)
+        (buffers supplies.old from.old to.old max.old cost.old entries.old ends.old blocked.old)
+        (buffers supplies.new from.new to.new max.new cost.new entries.new ends.new blocked.new) result }
 {
     solve_with_limit::build_model(
         day,
@@ -65,9 +64,9 @@ pub extern "C" fn cendravoka_check_values(
     blocked: &mut [u16],
     plan: &mut [u8],
 ) -> ModelAnswer
-    ensures { ValuesLent full_day (old day) (old state) (lent_input (old day) (old state) limit (old preferences) (old costs) (old lists)) (old values)
-        (buffers (old supplies) (old from) (old to) (old max) (old cost) (old entries) (old ends) (old blocked)) (old plan)
-        (buffers (new supplies) (new from) (new to) (new max) (new cost) (new entries) (new ends) (new blocked)) (new plan) result }
+    ensures { ValuesLent full_day day.now state.now (lent_input day.now state.now limit preferences.now costs.now lists.now) values.now
+        (buffers supplies.old from.old to.old max.old cost.old entries.old ends.old blocked.old) plan.old
+        (buffers supplies.new from.new to.new max.new cost.new entries.new ends.new blocked.new) plan.new result }
 {
     solve_with_limit::check_values(
         day,

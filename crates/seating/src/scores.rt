@@ -1,6 +1,5 @@
 // The entries over score.rs. Scores leave as bits, so that NaN's are fixed.
 ghost use Rattle.std.specs.Prelude.{◌≡◌};
-ghost use Rattle.counting.specs.Lent.{old};
 ghost use Rattle.score.specs.Order.{infinite_twice, finite_score, score_order, order_number};
 ghost use Rattle.score.specs.Listed.{best_in};
 ghost use Rattle.seating.specs.Scores.{score, score_bits, refused_bits, best_bits};
@@ -94,7 +93,7 @@ fn best_bits(a: BestAnswer) -> BestBits
 
 #[unsafe(no_mangle)]
 pub extern "C" fn cendravoka_best(scores: &[f32], count: usize) -> BestBits
-    ensures { result ≡ best_bits (best_in (old scores) count) }
+    ensures { result ≡ best_bits (best_in scores.now count) }
 {
     best_bits(score::best(scores, count))
 }

@@ -1,6 +1,5 @@
 // The entries over the preference search.
 ghost use Rattle.std.specs.Prelude.{◌≡◌};
-ghost use Rattle.counting.specs.Lent.{old};
 ghost use Rattle.input_data.specs.Bytes.{flag_of};
 ghost use Rattle.input_data.specs.Lengths.{full_day};
 ghost use Rattle.preference_search.specs.Search.{told};
@@ -32,7 +31,7 @@ pub extern "C" fn cendravoka_begin(
     greedy: u32,
     cached: &[u8],
 ) -> SearchAnswer
-    ensures { result ≡ begin_lent full_day (old day) (old schedule) (old levels) bound (flag_of greedy) (old cached) }
+    ensures { result ≡ begin_lent full_day day.now schedule.now levels.now bound (flag_of greedy) cached.now }
 {
     assignment_solver::begin(day, schedule, levels, bound, greedy != 0, cached)
 }
@@ -45,7 +44,7 @@ pub extern "C" fn cendravoka_tell(
     res: u32,
     plan: &[u8],
 ) -> SearchAnswer
-    ensures { result ≡ tell_lent full_day (old day) (old search) (old levels) (told (result_of res) (old plan)) }
+    ensures { result ≡ tell_lent full_day day.now search.now levels.now (told (result_of res) plan.now) }
 {
     assignment_solver::tell(day, search, levels, result_of(res), plan)
 }

@@ -1,6 +1,5 @@
 // The entries over the schedule state.
 ghost use Rattle.std.specs.Prelude.{◌≡◌};
-ghost use Rattle.counting.specs.Lent.{old, new};
 ghost use Rattle.input_data.specs.Lengths.{full_day};
 ghost use Rattle.schedule_state.specs.Calls.{Built, Updated, slot_list_answer};
 
@@ -8,7 +7,7 @@ use schedule_state::{SlotListAnswer, StateAnswer};
 
 #[unsafe(no_mangle)]
 pub extern "C" fn cendravoka_build(day: &[u8], schedule: &[u8], lists: &mut [u8]) -> StateAnswer
-    ensures { Built full_day (old day) (old schedule) (old lists) (new lists) result }
+    ensures { Built full_day day.now schedule.now lists.old lists.new result }
 {
     schedule_updates::build(day, schedule, lists)
 }
@@ -20,7 +19,7 @@ pub extern "C" fn cendravoka_update(
     schedule: &[u8],
     lists: &mut [u8],
 ) -> StateAnswer
-    ensures { Updated full_day (old day) (old state) (old schedule) (old lists) (new lists) result }
+    ensures { Updated full_day day.now state.now schedule.now lists.old lists.new result }
 {
     schedule_updates::update(day, state, schedule, lists)
 }
@@ -33,7 +32,7 @@ pub extern "C" fn cendravoka_slot_list(
     lists: &[u8],
     slot: usize,
 ) -> SlotListAnswer
-    ensures { result ≡ slot_list_answer full_day (old day) (old state) slot (old lists) }
+    ensures { result ≡ slot_list_answer full_day day.now state.now slot lists.now }
 {
     schedule_updates::slot_list_answer(day, state, lists, slot)
 }

@@ -1,7 +1,6 @@
 // The entries over scoring.rs: the verdict on a schedule and on a plan, and the score. Scores leave as
 // bits, so that NaN's are fixed.
 ghost use Rattle.std.specs.Prelude.{◌≡◌};
-ghost use Rattle.counting.specs.Lent.{old};
 ghost use Rattle.input_data.specs.Lengths.{full_day};
 ghost use Rattle.scoring.specs.Calls.{scheduling_lent, schedule_lent, assignment_lent, plan_lent};
 ghost use Rattle.seating.specs.Verdicts.{solution_of, evaluate_bits};
@@ -34,14 +33,14 @@ pub extern "C" fn cendravoka_satisfies_constraints_scheduling(
     day: &[u8],
     schedule: &[u8],
 ) -> VerdictAnswer
-    ensures { result ≡ scheduling_lent full_day (old day) (old schedule) }
+    ensures { result ≡ scheduling_lent full_day day.now schedule.now }
 {
     scoring::satisfies_constraints_scheduling(day, schedule)
 }
 
 #[unsafe(no_mangle)]
 pub extern "C" fn cendravoka_schedule_is_feasible(day: &[u8], schedule: &[u8]) -> VerdictAnswer
-    ensures { result ≡ schedule_lent full_day (old day) (old schedule) }
+    ensures { result ≡ schedule_lent full_day day.now schedule.now }
 {
     scoring::schedule_is_feasible(day, schedule)
 }
@@ -52,14 +51,14 @@ pub extern "C" fn cendravoka_satisfies_constraints_assignment(
     schedule: &[u8],
     plan: &[u8],
 ) -> VerdictAnswer
-    ensures { result ≡ assignment_lent full_day (old day) (old schedule) (old plan) }
+    ensures { result ≡ assignment_lent full_day day.now schedule.now plan.now }
 {
     scoring::satisfies_constraints_assignment(day, schedule, plan)
 }
 
 #[unsafe(no_mangle)]
 pub extern "C" fn cendravoka_is_feasible(day: &[u8], schedule: &[u8], plan: &[u8]) -> VerdictAnswer
-    ensures { result ≡ plan_lent full_day (old day) (old schedule) (old plan) }
+    ensures { result ≡ plan_lent full_day day.now schedule.now plan.now }
 {
     scoring::is_feasible(day, schedule, plan)
 }
@@ -75,7 +74,7 @@ pub extern "C" fn cendravoka_evaluate(
     preferences: &[u32],
     powers: &[f32],
 ) -> ScoreBitsAnswer
-    ensures { result ≡ evaluate_bits (old day) solution (old schedule) (old plan) greedy (old preferences) (old powers) }
+    ensures { result ≡ evaluate_bits day.now solution schedule.now plan.now greedy preferences.now powers.now }
 {
     let kind = solution_of(solution);
     let given = scoring::evaluate(day, kind, schedule, plan, greedy != 0, preferences, powers);

@@ -4,7 +4,6 @@
 
 ghost use Rattle.std.specs.Prelude.{◌≡◌, ◌+◌, ◌*◌, ◌<◌, ◌≤◌, length, set};
 ghost use Rattle.counting.specs.Fold.{any_to};
-ghost use Rattle.counting.specs.Lent.{old, new};
 ghost use Rattle.scheduling.specs.Schedule.{entry_at};
 ghost use Rattle.counting.specs.Search.{first_to};
 ghost use Rattle.slot_lists.specs.ListsLaws.{is_entry, removed};
@@ -16,7 +15,7 @@ ghost use Rattle.slot_lists.specs.Marks.{Looks, Noted, unmarked_at};
 // A choice joins a list of `len` entries at its end.
 fn append(part: &mut [u8], len: usize, choice: u8)
     requires { len < length part.old }
-    ensures { new part ≡ set (old part) len choice }
+    ensures { part.new ≡ set part.old len choice }
 {
     part[len] = choice;
 }
@@ -24,7 +23,7 @@ fn append(part: &mut [u8], len: usize, choice: u8)
 // The place of a choice among the first `len` entries, or `len` where it is not there.
 pub fn place(part: &[u8], len: usize, choice: u8) -> usize
     requires { len ≤ length part.now }
-    ensures { result ≡ first_to len (is_entry (old part) choice) }
+    ensures { result ≡ first_to len (is_entry part.now choice) }
 {
     let mut i = 0;
     while i < len {
@@ -39,7 +38,7 @@ pub fn place(part: &[u8], len: usize, choice: u8) -> usize
 // A choice leaves a list of `len` entries. The last one moves into its place, and nothing else is written.
 fn remove(part: &mut [u8], len: usize, choice: u8)
     requires { len ≤ length part.old }
-    ensures { new part ≡ removed len choice (old part) }
+    ensures { part.new ≡ removed len choice part.old }
 {
     let at = place(part, len, choice);
     if at < len {
@@ -51,7 +50,7 @@ fn remove(part: &mut [u8], len: usize, choice: u8)
 // The slot's part is lent on to `append`.
 pub fn enter(lists: &mut [u8], stride: usize, slot: usize, len: usize, choice: u8)
     requires { (len < stride) × (stride * slot + stride ≤ length lists.old) }
-    ensures { new lists ≡ set (old lists) (stride * slot + len) choice }
+    ensures { lists.new ≡ set lists.old (stride * slot + len) choice }
 {
     let a = stride * slot;
     let e = a + stride;
@@ -61,7 +60,7 @@ pub fn enter(lists: &mut [u8], stride: usize, slot: usize, len: usize, choice: u
 // The slot's part is lent on to `remove`.
 pub fn leave(lists: &mut [u8], stride: usize, slot: usize, len: usize, choice: u8)
     requires { (len ≤ stride) × (stride * slot + stride ≤ length lists.old) }
-    ensures { new lists ≡ left_by stride slot len choice (old lists) }
+    ensures { lists.new ≡ left_by stride slot len choice lists.old }
 {
     let a = stride * slot;
     let e = a + stride;
@@ -71,7 +70,7 @@ pub fn leave(lists: &mut [u8], stride: usize, slot: usize, len: usize, choice: u
 // Adds a weight to the sum of the slot that an entry names.
 pub fn add(sums: &mut [u32; 8], entry: u8, weight: u32)
     requires { Adds entry weight sums.old }
-    ensures { new sums ≡ added entry weight (old sums) }
+    ensures { sums.new ≡ added entry weight sums.old }
 {
     if entry == 0 {
         return;
@@ -83,7 +82,7 @@ pub fn add(sums: &mut [u32; 8], entry: u8, weight: u32)
 // The sums of the weights of each slot's choices.
 pub fn sums<'a>(entries: &'a [u8; 32], weights: &'a [u32; 32], n: usize) -> [u32; 8]
     requires { Weighs entries.now weights.now n }
-    ensures { Sums (entry_at (old weights)) (entry_at (old entries)) n result }
+    ensures { Sums (entry_at weights.now) (entry_at entries.now) n result }
 {
     let mut out = [0u32; 8];
     let mut i = 0;
@@ -103,7 +102,7 @@ pub fn weigh(
     n: usize,
 )
     requires { Unweighed lens.old covered.old × Weighs entries.now mins.now n }
-    ensures { SlotSums (old mins) (old entries) n (new lens) (new covered) }
+    ensures { SlotSums mins.now entries.now n lens.new covered.new }
 {
     let mut i = 0;
     while i < n {
@@ -116,7 +115,7 @@ pub fn weigh(
 // A choice is marked. A byte of a lent list may be no choice at all: every byte has a place.
 fn mark(marks: &mut [u8; 256], choice: u8, entry: u8)
     requires { length marks.old ≡ 256 }
-    ensures { (new marks ≡ set (old marks) choice entry) × (choice < 256) }
+    ensures { (marks.new ≡ set marks.old choice entry) × (choice < 256) }
 {
     marks[choice as usize] = entry;
 }
@@ -124,7 +123,7 @@ fn mark(marks: &mut [u8; 256], choice: u8, entry: u8)
 // The choices of a list of `len` entries, which begins at `start`, are marked with its slot's entry.
 fn mark_list(marks: &mut [u8; 256], lists: &[u8], start: usize, len: usize, entry: u8)
     requires { (length marks.old ≡ 256) × (start + len ≤ length lists.now) }
-    ensures { Noted (old lists) start len entry (old marks) (new marks) }
+    ensures { Noted lists.now start len entry marks.old marks.new }
 {
     let mut j = 0;
     while j < len {
@@ -136,7 +135,7 @@ fn mark_list(marks: &mut [u8; 256], lists: &[u8], start: usize, len: usize, entr
 // Whether the mark of one of the first n choices is not its entry.
 fn is_stray(marks: &[u8; 256], entries: &[u8; 32], n: usize) -> bool
     requires { n ≤ 32 }
-    ensures { result ≡ any_to n (unmarked_at (old marks) (entry_at (old entries))) }
+    ensures { result ≡ any_to n (unmarked_at marks.now (entry_at entries.now)) }
 {
     let mut bad = false;
     let mut k = 0;
@@ -158,7 +157,7 @@ pub fn is_misheld(
     n: usize,
 ) -> bool
     requires { Looks stride n slots entries.now (length lists.now) lens.now }
-    ensures { result ≡ misheld stride (entry_at (old entries)) n slots (old lists) }
+    ensures { result ≡ misheld stride (entry_at entries.now) n slots lists.now }
 {
     let mut marks = [0u8; 256];
     let mut s = 0;

@@ -1,5 +1,4 @@
 // The flow model of a state at a preference limit.
-ghost use Rattle.counting.specs.Lent.{old, new};
 ghost use Rattle.input_data.specs.Lengths.{Within, full_day};
 ghost use Rattle.model_buffers.specs.Buffers.{buffers};
 ghost use Rattle.flow_model.specs.Lent.{lent_input};
@@ -27,9 +26,9 @@ fn build_model_within(
     blocked: &mut [u16],
 ) -> ModelAnswer
     requires { Within limits }
-    ensures { ModelLent limits (old day) (old state) (lent_input (old day) (old state) limit (old preferences) (old costs) (old lists))
-        (buffers (old supplies) (old from) (old to) (old max) (old cost) (old entries) (old ends) (old blocked))
-        (buffers (new supplies) (new from) (new to) (new max) (new cost) (new entries) (new ends) (new blocked)) result }
+    ensures { ModelLent limits day.now state.now (lent_input day.now state.now limit preferences.now costs.now lists.now)
+        (buffers supplies.old from.old to.old max.old cost.old entries.old ends.old blocked.old)
+        (buffers supplies.new from.new to.new max.new cost.new entries.new ends.new blocked.new) result }
 {
     let mut index = [65535u16; 2048];
     let entered = flow_model::enter(
@@ -74,9 +73,9 @@ pub fn build_model(
     ends: &mut [u16],
     blocked: &mut [u16],
 ) -> ModelAnswer
-    ensures { ModelLent full_day (old day) (old state) (lent_input (old day) (old state) limit (old preferences) (old costs) (old lists))
-        (buffers (old supplies) (old from) (old to) (old max) (old cost) (old entries) (old ends) (old blocked))
-        (buffers (new supplies) (new from) (new to) (new max) (new cost) (new entries) (new ends) (new blocked)) result }
+    ensures { ModelLent full_day day.now state.now (lent_input day.now state.now limit preferences.now costs.now lists.now)
+        (buffers supplies.old from.old to.old max.old cost.old entries.old ends.old blocked.old)
+        (buffers supplies.new from.new to.new max.new cost.new entries.new ends.new blocked.new) result }
 {
     build_model_within(
         input_data::full_day(),

@@ -1,5 +1,4 @@
 // Edge values that are proposed from outside: checked against the model, and decoded.
-ghost use Rattle.counting.specs.Lent.{old, new};
 ghost use Rattle.input_data.specs.Lengths.{Within, full_day};
 ghost use Rattle.model_buffers.specs.Buffers.{buffers};
 ghost use Rattle.flow_model.specs.Lent.{lent_input};
@@ -29,9 +28,9 @@ fn check_values_within(
     plan: &mut [u8],
 ) -> ModelAnswer
     requires { Within limits }
-    ensures { ValuesLent limits (old day) (old state) (lent_input (old day) (old state) limit (old preferences) (old costs) (old lists)) (old values)
-        (buffers (old supplies) (old from) (old to) (old max) (old cost) (old entries) (old ends) (old blocked)) (old plan)
-        (buffers (new supplies) (new from) (new to) (new max) (new cost) (new entries) (new ends) (new blocked)) (new plan) result }
+    ensures { ValuesLent limits day.now state.now (lent_input day.now state.now limit preferences.now costs.now lists.now) values.now
+        (buffers supplies.old from.old to.old max.old cost.old entries.old ends.old blocked.old) plan.old
+        (buffers supplies.new from.new to.new max.new cost.new entries.new ends.new blocked.new) plan.new result }
 {
     let short = model_buffers::short_values(limits, values.len(), plan.len());
     let mut index = [65535u16; 2048];
@@ -101,9 +100,9 @@ pub fn check_values(
     blocked: &mut [u16],
     plan: &mut [u8],
 ) -> ModelAnswer
-    ensures { ValuesLent full_day (old day) (old state) (lent_input (old day) (old state) limit (old preferences) (old costs) (old lists)) (old values)
-        (buffers (old supplies) (old from) (old to) (old max) (old cost) (old entries) (old ends) (old blocked)) (old plan)
-        (buffers (new supplies) (new from) (new to) (new max) (new cost) (new entries) (new ends) (new blocked)) (new plan) result }
+    ensures { ValuesLent full_day day.now state.now (lent_input day.now state.now limit preferences.now costs.now lists.now) values.now
+        (buffers supplies.old from.old to.old max.old cost.old entries.old ends.old blocked.old) plan.old
+        (buffers supplies.new from.new to.new max.new cost.new entries.new ends.new blocked.new) plan.new result }
 {
     check_values_within(
         input_data::full_day(),
