@@ -3,7 +3,7 @@
 
 ghost use Rattle.std.specs.Prelude.{◌≡◌, [], ◌∷◌, ◌+◌, ◌≤◌, length};
 ghost use Rattle.counting.specs.Fold.{only_if};
-ghost use Rattle.counting.specs.WrittenLaws.{Put, one-buffer};
+ghost use Rattle.counting.specs.WrittenLaws.{Put, one_buffer};
 ghost use Rattle.input_data.specs.Lengths.{Within, full_day};
 ghost use Rattle.assignment.specs.Plan.{row, choosers_ordered, choices_ordered};
 ghost use Rattle.rosters.specs.Calls.{roster_answer, ChoosersOrdered, ChoicesOrdered};
@@ -23,7 +23,7 @@ pub struct RosterAnswer {
 // Stores a value where the test holds.
 fn put_if(test: bool, value: u8, roster: &mut [u8], at: usize) -> usize
     requires { at + length (only_if test (value ∷ [])) ≤ length roster.old }
-    ensures { Put (one-buffer _) roster.old at (only_if test (value ∷ [])) roster.new result }
+    ensures { Put (one_buffer _) roster.old at (only_if test (value ∷ [])) roster.new result }
 {
     if test {
         roster[at] = value;
@@ -43,7 +43,7 @@ fn put_row(
     at: usize,
 ) -> usize
     requires { RowIn slots plan.now base choice value at (length roster.old) }
-    ensures { Put (one-buffer _) roster.old at (row slots plan.now base choice value) roster.new result }
+    ensures { Put (one_buffer _) roster.old at (row slots plan.now base choice value) roster.new result }
 {
     let mut to = at;
     let mut s = 0;
@@ -63,7 +63,7 @@ fn put_choosers(
     roster: &mut [u8],
 ) -> usize
     requires { ChoosersIn choosers slots plan.now choice (length roster.old) }
-    ensures { Put (one-buffer _) roster.old 0 (choosers_ordered choosers slots plan.now choice) roster.new result }
+    ensures { Put (one_buffer _) roster.old 0 (choosers_ordered choosers slots plan.now choice) roster.new result }
 {
     let mut at = 0;
     let mut c = 0;
@@ -83,7 +83,7 @@ fn put_choices(
     roster: &mut [u8],
 ) -> usize
     requires { ChoicesIn choices slots plan.now chooser (length roster.old) }
-    ensures { Put (one-buffer _) roster.old 0 (choices_ordered choices slots plan.now chooser) roster.new result }
+    ensures { Put (one_buffer _) roster.old 0 (choices_ordered choices slots plan.now chooser) roster.new result }
 {
     let base = chooser * slots;
     let mut at = 0;
