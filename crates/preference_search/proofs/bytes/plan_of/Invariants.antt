@@ -1,0 +1,10 @@
+use Rattle.std.proofs.Common.{◌≤◌, ◌-◌}
+use Rattle.counting.specs.Lists.{Padded}
+use Rattle.scheduling.specs.Schedule.{entry_at}
+use Rattle.preference_search.proofs.bytes.plan_of.Given as goal
+
+abbrev pub invariant-loop-i : goal.invariant-loop-i
+invariant-loop-i l = (l.i ≤ 512) × Padded (entry_at l.b) 512 l.i l.out
+
+abbrev pub decreases-loop-i : goal.decreases-loop-i
+decreases-loop-i l = 512 - l.i
