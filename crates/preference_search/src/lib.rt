@@ -23,7 +23,7 @@ pub enum LimitSolveResult {
 }
 
 // The best plan so far, the level at which it was found, and the optimal mark.
-#[derive(Drop)]
+#[derive(Clone, Copy)]
 pub struct Known {
     pub found: bool,
     pub level: u32,
