@@ -3,6 +3,7 @@
 #![tactic(auto)]
 
 use layouts::{day_of, schedule_of};
+use std::io;
 
 mod layouts;
 mod lines;
@@ -12,34 +13,34 @@ mod searches;
 mod states;
 
 // Its state, its model, and values for the model's edges.
-fn rows_of_day(day: &[u8; 2044]) {
+fn rows_of_day(rt: &HostRuntime, day: &[u8; 2044]) -> io::Result<()> {
     let first = schedule_of(0, 0, 1);
-    states::rows_of_build(b"choices 0, 1, 2 in slots 0, 0, 1: ", day, &first);
-    models::rows_of_model(b"model at limit 1: ", day, false);
-    models::rows_of_values(day);
-    models::row_of_edge_six(day, 3);
-    models::row_of_edge_six(day, 0);
+    states::rows_of_build(rt, "choices 0, 1, 2 in slots 0, 0, 1: ", day, &first)?;
+    models::rows_of_model(rt, "model at limit 1: ", day, false)?;
+    models::rows_of_values(rt, day)?;
+    models::row_of_edge_six(rt, day, 3)?;
+    models::row_of_edge_six(rt, day, 0)
 }
 
 // The same with a constraint, with another schedule, and with input that is refused.
-fn rows_of_change(day: &[u8; 2044]) {
+fn rows_of_change(rt: &HostRuntime, day: &[u8; 2044]) -> io::Result<()> {
     let tied = day_of(2, 2, 1);
     let moved = schedule_of(1, 0, 1);
-    models::rows_of_model(b"with ChoosersHaveSameChoices of 0 and 1: ", &tied, true);
-    states::rows_of_update(b"choice 0 moved to slot 1: ", day, &moved);
-    states::rows_of_build(b"that schedule afresh: ", day, &moved);
-    states::row_of_refusal(day);
-    states::rows_of_limits();
+    models::rows_of_model(rt, "with ChoosersHaveSameChoices of 0 and 1: ", &tied, true)?;
+    states::rows_of_update(rt, "choice 0 moved to slot 1: ", day, &moved)?;
+    states::rows_of_build(rt, "that schedule afresh: ", day, &moved)?;
+    states::row_of_refusal(rt, day)?;
+    states::rows_of_limits(rt)
 }
 
-fn main() {
+fn main(rt: HostRuntime) -> io::Result<()> {
     let day = day_of(2, 2, 0);
-    rows_of_day(&day);
-    rows_of_change(&day);
-    searches::row_of_search(0);
-    searches::row_of_search(5);
-    scores::row_of_zeros();
-    scores::rows_of_order();
-    scores::row_of_best();
-    scores::rows_of_negation();
+    rows_of_day(&rt, &day)?;
+    rows_of_change(&rt, &day)?;
+    searches::row_of_search(&rt, 0)?;
+    searches::row_of_search(&rt, 5)?;
+    scores::row_of_zeros(&rt)?;
+    scores::rows_of_order(&rt)?;
+    scores::row_of_best(&rt)?;
+    scores::rows_of_negation(&rt)
 }

@@ -2,6 +2,7 @@
 use crate::lines::{say, say_constraint, say_ordering, say_score, say_with, say_word};
 use constraint::Constraint;
 use score::{BestScore, Score};
+use std::io;
 
 // The three scores, each of which is less than the next and the last less than the first.
 fn first() -> Score {
@@ -25,7 +26,7 @@ fn third() -> Score {
     }
 }
 
-pub(crate) fn row_of_zeros() {
+pub(crate) fn row_of_zeros(rt: &HostRuntime) -> io::Result<()> {
     let negative = Score {
         major: 1.0,
         minor: -0.0,
@@ -34,32 +35,32 @@ pub(crate) fn row_of_zeros() {
         major: 1.0,
         minor: 0.0,
     };
-    say(b"minor -0.0 before +0.0 with equal majors: ");
-    say_ordering(negative.cmp(positive));
-    say(b"\n");
+    say(rt, "minor -0.0 before +0.0 with equal majors: ")?;
+    say_ordering(rt, negative.cmp(positive))?;
+    say(rt, "\n")
 }
 
-fn row_of_two(left: Score, right: Score) {
-    say_score(left);
-    say(b" < ");
-    say_score(right);
-    say(b": ");
-    say_ordering(left.cmp(right));
-    say(b"\n");
+fn row_of_two(rt: &HostRuntime, left: Score, right: Score) -> io::Result<()> {
+    say_score(rt, left)?;
+    say(rt, " < ")?;
+    say_score(rt, right)?;
+    say(rt, ": ")?;
+    say_ordering(rt, left.cmp(right))?;
+    say(rt, "\n")
 }
 
 // In a cycle the best hangs on the order: the first is kept until a later one is less.
-pub(crate) fn row_of_best() {
+pub(crate) fn row_of_best(rt: &HostRuntime) -> io::Result<()> {
     let one = first();
     let two = second();
     let three = third();
-    say(b"best of ");
-    say_score(one);
-    say(b", ");
-    say_score(two);
-    say(b", ");
-    say_score(three);
-    say(b": ");
+    say(rt, "best of ")?;
+    say_score(rt, one)?;
+    say(rt, ", ")?;
+    say_score(rt, two)?;
+    say(rt, ", ")?;
+    say_score(rt, three)?;
+    say(rt, ": ")?;
     let floats = [
         one.major,
         one.minor,
@@ -70,29 +71,29 @@ pub(crate) fn row_of_best() {
     ];
     let best = score::best(&floats, 3).best;
     match best {
-        BestScore::None => say(b"none"),
+        BestScore::None => say(rt, "none")?,
         BestScore::At(ranked) => {
-            say_with(b"position ", ranked.position);
-            say(b", score ");
-            say_score(ranked.score);
+            say_with(rt, "position ", ranked.position)?;
+            say(rt, ", score ")?;
+            say_score(rt, ranked.score)?;
         }
     }
-    say(b"\n");
+    say(rt, "\n")
 }
 
-pub(crate) fn rows_of_negation() {
+pub(crate) fn rows_of_negation(rt: &HostRuntime) -> io::Result<()> {
     let limit = Constraint::of(6, 0, 4, 2, 2, -2);
-    say(b"size limit Leq: ");
-    say_constraint(limit);
+    say(rt, "size limit Leq: ")?;
+    say_constraint(rt, limit)?;
     let answer = limit.negation();
-    say_word(b"its negation, number ", answer.number);
-    say(b": ");
-    say_constraint(answer.constraint);
+    say_word(rt, "its negation, number ", answer.number)?;
+    say(rt, ": ")?;
+    say_constraint(rt, answer.constraint)
 }
 
 // The cycle of three scores: a NaN as a major leaves the minors to decide.
-pub(crate) fn rows_of_order() {
-    row_of_two(first(), second());
-    row_of_two(second(), third());
-    row_of_two(third(), first());
+pub(crate) fn rows_of_order(rt: &HostRuntime) -> io::Result<()> {
+    row_of_two(rt, first(), second())?;
+    row_of_two(rt, second(), third())?;
+    row_of_two(rt, third(), first())
 }

@@ -2,6 +2,7 @@
 use crate::layouts::{day_of, schedule_of, search_bytes};
 use crate::lines::{say, say_word};
 use preference_search::{LimitSolveResult, SearchAnswer};
+use std::io;
 
 fn levels() -> [u32; 5] {
     [0, 1, 2, 3, 4]
@@ -16,12 +17,12 @@ fn answer_at(level: u32) -> LimitSolveResult {
 }
 
 // Tells a search the answer to its ask. One that has ended stays as it is.
-fn step(asked: SearchAnswer) -> SearchAnswer {
+fn step(rt: &HostRuntime, asked: SearchAnswer) -> io::Result<SearchAnswer> {
     let search = asked.search;
     if !search.asking {
-        return asked;
+        return Ok(asked);
     }
-    say_word(b" ", asked.level);
+    say_word(rt, " ", asked.level)?;
     let day = day_of(2, 4, 0);
     let levels = levels();
     let bytes = search_bytes(search);
@@ -29,31 +30,31 @@ fn step(asked: SearchAnswer) -> SearchAnswer {
     plan[0] = 1;
     plan[1] = 2;
     plan[3] = 2;
-    assignment_solver::tell(&day, &bytes, &levels, answer_at(asked.level), &plan)
+    Ok(assignment_solver::tell(&day, &bytes, &levels, answer_at(asked.level), &plan))
 }
 
 // A search told answer after answer. It asks no more often than there are levels.
-fn ended(first: SearchAnswer) -> SearchAnswer {
+fn ended(rt: &HostRuntime, first: SearchAnswer) -> io::Result<SearchAnswer> {
     let mut answer = first;
     let mut i = 0usize;
     while i < 5 {
-        answer = step(answer);
+        answer = step(rt, answer)?;
         i += 1;
     }
-    answer
+    Ok(answer)
 }
 
 // A search from a bound on, over five levels.
-pub(crate) fn row_of_search(bound: u32) {
+pub(crate) fn row_of_search(rt: &HostRuntime, bound: u32) -> io::Result<()> {
     let day = day_of(2, 4, 0);
     let schedule = schedule_of(0, 0, 1);
     let levels = levels();
     let nothing = [0u8; 546];
-    say_word(b"levels 0 1 2 3 4, the last two feasible, from ", bound);
-    say(b" on: asks at");
+    say_word(rt, "levels 0 1 2 3 4, the last two feasible, from ", bound)?;
+    say(rt, " on: asks at")?;
     let begun = assignment_solver::begin(&day, &schedule, &levels, bound, false, &nothing);
-    let search = ended(begun).search;
-    say_word(b"; ", search.asks);
-    say_word(b" in all; answer ", search.level);
-    say(b"\n");
+    let search = ended(rt, begun)?.search;
+    say_word(rt, "; ", search.asks)?;
+    say_word(rt, " in all; answer ", search.level)?;
+    say(rt, "\n")
 }

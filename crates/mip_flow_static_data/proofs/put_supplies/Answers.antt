@@ -1,0 +1,10 @@
+use Rattle.std.proofs.Common.{◌++◌, ◌+◌, ◌*◌, arith, length-append, ◌-◌}
+use Rattle.counting.specs.Fold.{table_to}
+use Rattle.counting.specs.Lists.{length_table}
+use Rattle.counting.specs.WrittenLaws.{written_then}
+use Rattle.mip_flow_static_data.specs.Nodes.{chooser_supply, choice_supply, slot_supply, supplies}
+use Rattle.mip_flow_static_data.proofs.put_supplies.Goals as goal
+
+pub returns : goal.returns
+unfolding supplies
+returns c = let a = c.args in let z = a.sizes in let n = z.choosers * z.slots in let xs = table_to n chooser_supply in let ys = table_to z.choices (choice_supply a.entries.now a.mins.now) in let zs = table_to z.slots (slot_supply z a.covered.now) in written_then _ 0 (xs ++ ys) zs (n + z.choices) (written_then _ 0 xs ys n c.put_chooser_supplies.ensures c.put_choice_supplies.ensures (omega (arith, length_table n chooser_supply))) c.put_slot_supplies.ensures (omega (arith, length-append xs ys, length_table n chooser_supply, length_table z.choices (choice_supply a.entries.now a.mins.now)))
