@@ -1,3 +1,2 @@
 -- That what is carried from schedule to schedule agrees with a fresh build.
 pub mod Agreement
-pub mod CarriedAgrees

@@ -20,7 +20,7 @@ use Rattle.plans.specs.Seatable.{Seatable}
 use Rattle.carried_states.specs.Agreement.{Carried, after_build, run_updates, AsFresh}
 use Rattle.schedule_state.specs.Calls.{state_number}
 use Rattle.scheduling.specs.Handed.{outside, kept_of}
-use Rattle.carried_states.specs.CarriedAgrees.{carried_agrees}
+use Rattle.carried_states.proofs.CarriedAgrees.{carried_agrees}
 use Rattle.schedule_state.specs.Good.{choices_most, kept_fits}
 use Rattle.schedule_updates.specs.Numbers.{UpdateAccepted, update_accepted, build_inside, build_ready}
 use Rattle.input_data.specs.Numbers.{first_not}

@@ -4,7 +4,7 @@ use Rattle.std.specs.Prelude.{ℕ, ◌<◌, ◌≡◌, refl, true, false, cond, 
 use Rattle.std.proofs.Common.{sym, ap, subst, ◌∙◌, arith}
 use Rattle.std.proofs.Math.ListN.{get_or-append}
 use Rattle.carried_states.specs.Agreement.{Call, Carried, number_of, after_build, updated, after_update, run_updates, Fed}
-use Rattle.carried_states.specs.CarriedAgrees.{carried_agrees}
+use Rattle.carried_states.proofs.CarriedAgrees.{carried_agrees}
 use Rattle.constraint.specs.Kind.{kind_of}
 use Rattle.counting.specs.Fold.{fold_to, some_below}
 use Rattle.counting.specs.Ints.{eq_z}

@@ -13,7 +13,7 @@ use Rattle.preference_search.specs.Steps.{known_by, remembers, begun_levels, beg
 use Rattle.preference_search_runs.specs.Whole.{run_is_search}
 use Rattle.preference_search.specs.declared.Known.{Known}
 use Rattle.carried_states.specs.Agreement.{Call, Carried, number_of, after_build, updated}
-use Rattle.carried_states.specs.CarriedAgrees.{carried_agrees}
+use Rattle.carried_states.proofs.CarriedAgrees.{carried_agrees}
 use Rattle.constraint.specs.Kind.{kind_of}
 use Rattle.counting.specs.Fold.{fold_to, some_below}
 use Rattle.counting.specs.Ints.{eq_z}
