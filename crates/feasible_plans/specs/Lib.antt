@@ -2,7 +2,4 @@
 pub mod Premises
 pub mod Seats
 pub mod Rules
-pub mod Feasibility
-pub mod Answers
 pub mod DemandThree
-pub mod DemandThreeHolds

@@ -9,6 +9,4 @@ pub mod Flow
 pub mod SeatPairs
 pub mod Balance
 pub mod Decode
-pub mod Together
 pub mod Seated
-pub mod Plans

@@ -15,7 +15,7 @@ use Rattle.edge_groups.specs.Names.{slot_names, same_choices_names, constraint_n
 use Rattle.decoding.specs.Decode.{choice_for, decoded}
 use Rattle.edge_values.specs.Values.{some_outside, some_used, is_uneven, some_uneven, flow, some_unbalanced, values_number}
 use Rattle.feasible_plans.specs.DemandThree.{Demand, Begins, last_schedule, carried_model, fresh_model}
-use Rattle.feasible_plans.specs.DemandThreeHolds.{demand_three}
+use Rattle.feasible_plans.proofs.DemandThreeHolds.{demand_three}
 use Rattle.feasible_plans.specs.Premises.{ShareGroup, Premises}
 use Rattle.input_data.specs.Checks.{first_of, day_number, late_number, member_count, has_bad_preferences, has_bad_costs}
 use Rattle.input_data.specs.Day.{no_numbers}

@@ -19,7 +19,7 @@ use Rattle.scheduling.specs.declared.Scheduling.{Scheduling}
 use Rattle.feasibility.specs.Checks.{parts_number}
 use Rattle.scoring.specs.Calls.{verdict, beside_none, schedule_number, schedule_answer, verdict_number, plan_answer}
 use Rattle.feasibility.specs.Feasible.{all_placed}
-use Rattle.feasible_plans.specs.Feasibility.{plan_feasible_lem, schedule_feasible_lem}
+use Rattle.feasible_plans.proofs.Feasibility.{plan_feasible_lem, schedule_feasible_lem}
 use Rattle.feasible_plans.specs.Premises.{Premises}
 use Rattle.feasible_plans.specs.Seats.{Stands, seat_same, allowed}
 

@@ -26,7 +26,7 @@ use Rattle.plans.specs.SeatPairs.{frame_of, edge_count, row_at, item_at, model_e
 use Rattle.plans.specs.Balance.{Passed, passed_outside, passed_unbalanced}
 use Rattle.plans.specs.Decode.{all_passed, values_zero, values_passed, read_flow, has_same, chosen_has, plan_length_lem, plan_at}
 use Rattle.plans.specs.Seated.{Reads, flow_seatable, seated_together, table, table_flow, table_reads}
-use Rattle.plans.specs.Together.{together_iff}
+use Rattle.plans.proofs.Together.{together_iff}
 
 -- the number of a check: that before the values, and that of the values
 cond_zero : (n m : ℕ) → cond (eqb n 0) m n ≡ 0 → (n ≡ 0) × (m ≡ 0)

@@ -15,7 +15,7 @@ use Rattle.model_buffers.specs.Lengths.{short_buffers, short_values}
 use Rattle.model_buffers.specs.declared.Lengths.{Lengths}
 use Rattle.plans.specs.CanBeHad.{CanBeHad}
 use Rattle.plans.specs.Model.{ModelInput, entries_of, network_of, wrong_model_tables, beside_model, number_with, model_number, enter_number}
-use Rattle.plans.specs.Plans.{plans_seatable, same_plans, within_limit}
+use Rattle.plans.proofs.Plans.{plans_seatable, same_plans, within_limit}
 use Rattle.plans.specs.Seatable.{Seatable}
 use Rattle.carried_states.specs.Agreement.{Carried, after_build, run_updates, AsFresh}
 use Rattle.schedule_state.specs.Calls.{state_number}
@@ -29,7 +29,7 @@ use Rattle.scheduling.specs.Schedule.{entry_at}
 use Rattle.scheduling.specs.ScheduleLaws.{kept_twice}
 use Rattle.edge_values.specs.Values.{values_number}
 use Rattle.feasible_plans.specs.DemandThree.{carried_model, fresh_model, last_schedule, Granted, Demand, DemandThree}
-use Rattle.feasible_plans.specs.Answers.{plan_answered, schedule_answered}
+use Rattle.feasible_plans.proofs.Answers.{plan_answered, schedule_answered}
 use Rattle.feasible_plans.specs.Seats.{Stands}
 
 -- a state and its lists that an update of the day takes

@@ -1,0 +1,3 @@
+pub mod Feasibility
+pub mod Answers
+pub mod DemandThreeHolds
