@@ -1,6 +1,6 @@
 //! Links the proved archive: libseating.a in the folder that CENDRAVOKA_LIB
 //! names (from the repository's root if relative), or else in the folder that
-//! `rt staticlib seating` writes.
+//! tools/archive writes.
 use std::env;
 use std::path::PathBuf;
 
@@ -18,7 +18,7 @@ fn main() {
             println!("cargo::rustc-link-lib=static=seating");
         }
         Err(_) => println!(
-            "cargo::error=there is no {}: run `rt staticlib seating` first",
+            "cargo::error=there is no {}: run tools/archive first",
             archive.display()
         ),
     }

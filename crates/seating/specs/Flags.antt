@@ -1,6 +1,6 @@
 -- Lent bytes whose flags mean the same stand for the same: a byte 2 is a byte 1. Assumes nothing.
 -- Every promise of a call speaks of its day, state, search and memory through day_of, state_in, search_in and cached_in and through their lengths.
--- For states this is `alike-state`, for searches and memories `search-alike` and `cached-alike`; here it is said of days.
+-- For states this is `alike_state`, for searches and memories `search_alike` and `cached_alike`; here it is said of days.
 use Rattle.std.specs.Prelude.{ℕ, ◌+◌, ◌*◌, ◌<◌, ◌≤◌, ◌≡◌, List, [], ◌∷◌, ◌++◌, length, get_or}
 use Rattle.std.proofs.Common.{ap, arith}
 use Rattle.counting.specs.Fold.{table_to}
