@@ -9,7 +9,7 @@ pub use model::enter;
 use model_buffers::Counts;
 
 // The number of a call before values are looked at and, where that is 0, what its model uses.
-#[derive(Drop)]
+#[derive(Clone, Copy)]
 pub struct Entered {
     pub number: u32,
     pub counts: Counts,

@@ -24,7 +24,7 @@ pub struct Lengths {
 
 // How long the slots' lists are, and how much of the buffers a model uses. The first `seats` edges are
 // those of seats.
-#[derive(Drop)]
+#[derive(Clone, Copy)]
 pub struct Counts {
     pub lens: [u32; 8],
     pub seats: usize,
@@ -36,7 +36,7 @@ pub struct Counts {
 
 // The number of the answer, and how much of the buffers the model uses; zeros where refused.
 #[repr(C)]
-#[derive(Drop)]
+#[derive(Clone, Copy)]
 pub struct ModelAnswer {
     pub number: u32,
     pub edges: usize,

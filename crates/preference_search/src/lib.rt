@@ -33,7 +33,7 @@ pub struct Known {
 
 // A plan that was found and optimal, with its schedule and the greedy setting. It serves one day.
 #[repr(C)]
-#[derive(Drop)]
+#[derive(Clone, Copy)]
 pub struct CachedAssignment {
     pub there: bool,
     pub greedy: bool,
@@ -44,7 +44,7 @@ pub struct CachedAssignment {
 // A search that waits for the answer to its ask, or has ended. `level` and `plan` are those of the best
 // plan so far. It is lent as the bytes of this struct.
 #[repr(C)]
-#[derive(Drop)]
+#[derive(Clone, Copy)]
 pub struct Search {
     pub asking: bool,
     pub greedy: bool,
@@ -62,7 +62,7 @@ pub struct Search {
 
 // The level that the search asks for, and its index; zeros where it does not ask.
 #[repr(C)]
-#[derive(Drop)]
+#[derive(Clone, Copy)]
 pub struct SearchAnswer {
     pub number: u32,
     pub level: u32,

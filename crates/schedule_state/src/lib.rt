@@ -13,7 +13,7 @@ use scheduling::Scheduling;
 
 // Lists of choices stand in a lent buffer; their lengths follow from the schedule. A state is lent as bytes, in this layout.
 #[repr(C)]
-#[derive(Drop)]
+#[derive(Clone, Copy)]
 pub struct AssignmentScheduleState {
     pub schedule: Scheduling,
     pub covered: [u32; 8],
@@ -22,7 +22,7 @@ pub struct AssignmentScheduleState {
 
 // The number of the answer, and the state, or zeros where the call is refused.
 #[repr(C)]
-#[derive(Drop)]
+#[derive(Clone, Copy)]
 pub struct StateAnswer {
     pub number: u32,
     pub state: AssignmentScheduleState,

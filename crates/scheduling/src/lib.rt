@@ -9,7 +9,7 @@ use counting::at_most;
 // A schedule gives each choice one slot or none: an entry is 0 for none, and s + 1 for slot s.
 // Entries past the day's choices are ignored.
 #[repr(C)]
-#[derive(Drop)]
+#[derive(Clone, Copy)]
 pub struct Scheduling {
     pub entries: [u8; 32],
 }
