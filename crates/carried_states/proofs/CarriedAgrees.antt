@@ -17,7 +17,6 @@ use Rattle.scheduling.specs.ScheduleLaws.{kept_twice}
 use Rattle.scheduling.specs.declared.Scheduling.{Scheduling}
 use Rattle.slot_lists.specs.HeldLaws.{Held, member, not_misheld, held_after, held_nowhere, holds_any}
 use Rattle.slot_lists.specs.Sums.{nowhere}
-use Rattle.slot_lists.specs.Walk.{carried}
 use Rattle.slot_lists.specs.WalkLaws.{carried_length}
 use Rattle.carried_states.specs.Agreement.{Call, number_of, Carried, after_build, updated, after_update, run_updates, Fed, is_in, Agree, CarriedAgrees}
 use Rattle.blocks.specs.Blocks.{cell}

@@ -1,5 +1,5 @@
 -- What is made of f 0, f 1, .., f (n - 1): one recursion, and the names of its uses. SPEC 2.17. Definitions only.
-use Rattle.std.specs.Prelude.{ℕ, zero, suc, ◌+◌, ◌<◌, Bool, true, false, cond, ◌&&◌, ◌||◌, List, [], ◌∷◌, ◌++◌, ltb, ℤ, pos, ◌+ℤ◌}
+use Rattle.std.specs.Prelude.{ℕ, zero, suc, ◌+◌, Bool, true, false, cond, ◌&&◌, ◌||◌, List, [], ◌∷◌, ◌++◌, ltb, ℤ, pos, ◌+ℤ◌}
 
 module _ {ℓ ℓ'} {A : Type ℓ} {B : Type ℓ'} where
   -- start, then f 0 taken in, then f 1, .., then f (n - 1)

@@ -1,5 +1,5 @@
 -- The first index at which a test passes. SPEC 2.17. Definitions only.
-use Rattle.std.specs.Prelude.{ℕ, suc, ◌+◌, ◌-◌, ◌<◌, Bool, cond, ltb}
+use Rattle.std.specs.Prelude.{ℕ, suc, Bool, cond, ltb}
 use Rattle.counting.specs.Fold.{fold_to}
 
 -- r is the first below k, or k where there is none: the first below k + 1

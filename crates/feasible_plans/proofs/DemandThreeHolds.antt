@@ -28,7 +28,7 @@ use Rattle.schedule_state.specs.State.{inconsistent}
 use Rattle.scheduling.specs.Schedule.{entry_at}
 use Rattle.scheduling.specs.ScheduleLaws.{kept_twice}
 use Rattle.edge_values.specs.Values.{values_number}
-use Rattle.feasible_plans.specs.DemandThree.{carried_model, fresh_model, last_schedule, Granted, Demand, DemandThree}
+use Rattle.feasible_plans.specs.DemandThree.{carried_model, fresh_model, last_schedule, Granted, DemandThree}
 use Rattle.feasible_plans.proofs.Answers.{plan_answered, schedule_answered}
 use Rattle.feasible_plans.specs.Seats.{Stands}
 

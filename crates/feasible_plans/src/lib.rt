@@ -1,3 +1,2 @@
 // Definitions and theorems only: a plan that can be had is feasible.
 #![tactic(auto)]
-

@@ -1,5 +1,5 @@
 -- What accepted input gives the builder of a model, and what it then leaves. Assumes nothing.
-use Rattle.std.specs.Prelude.{ℕ, zero, suc, ◌+◌, ◌-◌, ◌*◌, ◌≤◌, ◌<◌, ◌≡◌, refl, Bool, true, false, not, ◌||◌, List, map, eqb, ℤ, replicate}
+use Rattle.std.specs.Prelude.{ℕ, zero, suc, ◌+◌, ◌*◌, ◌≤◌, ◌<◌, ◌≡◌, refl, Bool, true, false, not, ◌||◌, List, map, eqb, ℤ, replicate}
 use Rattle.std.proofs.Math.Path.{sym, ap, fun_ext}
 use Rattle.std.proofs.Common.{◌∙◌, mul-le-mul, le_refl, mul-le-mul_right, arith}
 use Rattle.std.proofs.Math.Nat.{zero-add}
@@ -20,7 +20,6 @@ use Rattle.input_data.specs.Lengths.{Within, preferences_length, costs_length, s
 use Rattle.input_data.specs.declared.Limits.{Limits}
 use Rattle.scheduling.specs.Schedule.{entry_at}
 use Rattle.slot_lists.specs.HeldLaws.{member}
-use Rattle.slot_lists.specs.Lists.{listed}
 use Rattle.slot_lists.specs.SumsLaws.{Sums, Weighs, weighed_most}
 use Rattle.slot_lists.specs.Sums.{one, weight_at, weighed}
 use Rattle.blocks.specs.Blocks.{cell}

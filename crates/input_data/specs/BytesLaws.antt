@@ -1,5 +1,5 @@
 -- Definitions on the day that bytes stand for, read off the bytes. Assumes nothing.
-use Rattle.std.specs.Prelude.{ℕ, zero, suc, ◌+◌, ◌*◌, ◌<◌, ◌≡◌, ℤ, pos, negsuc, neg_ℤ, ◌-ℤ◌, List, Bool, get_or, length, true, not, ◌≢◌}
+use Rattle.std.specs.Prelude.{ℕ, zero, suc, ◌+◌, ◌*◌, ◌<◌, ◌≡◌, ℤ, pos, negsuc, neg_ℤ, ◌-ℤ◌, List, Bool, get_or, length, true, ◌≢◌}
 use Rattle.std.proofs.Math.Path.{refl, sym}
 use Rattle.std.proofs.Common.{ap, ◌∙◌, subst, arith, add-zero, SFits, to_z, of_z, to_z-of_z, eqb-true, eq-eqb, ne_eqb}
 use Rattle.std.specs.Int.{w32}

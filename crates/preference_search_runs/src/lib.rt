@@ -1,3 +1,2 @@
 // Definitions and theorems only: whole runs of the preference search, and what they remember.
 #![tactic(auto)]
-

@@ -13,7 +13,6 @@ use Rattle.input_data.specs.Bytes.{IsDay, day_of}
 use Rattle.scheduling.specs.Schedule.{entry_at, of_entry, slot_in}
 use Rattle.scheduling.specs.ScheduleLaws.{of_none, of_slot_lem}
 use Rattle.scheduling.specs.declared.SlotOf.{SlotOf}
-use Rattle.scheduling.specs.declared.SlotOf.TheVariants as SlotOf
 use Rattle.satisfies_constraints.specs.Constraints.{has_offset, size_of}
 
 -- a plan has room for so many seats

@@ -1,5 +1,5 @@
 -- The number of a call that is handed a state, test after test, as the code comes to it. Assumes nothing.
-use Rattle.std.specs.Prelude.{ℕ, ◌≤◌, ◌≡◌, Bool, true, false, not, ◌||◌, List, ◌≢◌, length, take}
+use Rattle.std.specs.Prelude.{ℕ, ◌≤◌, ◌≡◌, Bool, true, false, ◌||◌, List, ◌≢◌, length, take}
 use Rattle.std.proofs.Common.{sym, ◌∙◌, arith, eqb-true, eq-eqb}
 use Rattle.std.proofs.lemmas.Bool.{not-false}
 use Rattle.counting.specs.Tests.{or_split, bool_cases}

@@ -1,5 +1,5 @@
 -- A schedule by its entries: 0 is none, s + 1 is slot s. SPEC 1.4, 2.7, 2.12, 3.11. Definitions only.
-use Rattle.std.specs.Prelude.{ℕ, zero, suc, ◌-◌, Bool, List, ltb, get_or}
+use Rattle.std.specs.Prelude.{ℕ, zero, suc, Bool, List, ltb, get_or}
 use Rattle.counting.specs.Fold.{gate, table_to, some_below}
 use Rattle.scheduling.specs.declared.SlotOf.{SlotOf}
 use Rattle.scheduling.specs.declared.SlotOf.TheVariants.{None, Slot}

@@ -1,5 +1,5 @@
 -- The best of scores that are listed as floats: SPEC 3.1, 3.2, 11.10. Definitions only.
-use Rattle.std.specs.Prelude.{ℕ, ◌+◌, ◌*◌, ◌-◌, cond, not, List, eqb, ltb, length, get_or, Float}
+use Rattle.std.specs.Prelude.{ℕ, ◌+◌, ◌*◌, cond, not, List, eqb, ltb, length, get_or, Float}
 use Rattle.std.specs.Float.{nan}
 use Rattle.counting.specs.Fold.{table_to}
 use Rattle.score.specs.declared.Score.{Score}

@@ -19,7 +19,6 @@ use Rattle.plan_score.specs.Evaluate.{evaluated}
 use Rattle.scoring.specs.declared.ScoreAnswer.{ScoreAnswer}
 use Rattle.scoring.specs.declared.VerdictAnswer.{VerdictAnswer}
 use Rattle.scoring.specs.declared.solution.Solution.{Solution}
-use Rattle.scoring.specs.declared.solution.Solution.TheVariants as Solution
 
 abbrev pub verdict : ℕ → Bool → VerdictAnswer
 verdict n b = record { number = n; holds = b }

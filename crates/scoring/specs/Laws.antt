@@ -32,7 +32,6 @@ use Rattle.scoring.specs.Calls.{verdict, verdict_of, beside_none, schedule_numbe
 use Rattle.score.specs.declared.Score.{Score}
 use Rattle.scoring.specs.declared.ScoreAnswer.{ScoreAnswer}
 use Rattle.scoring.specs.declared.solution.Solution.{Solution}
-use Rattle.scoring.specs.declared.solution.Solution.TheVariants as Solution
 use Rattle.scoring.specs.declared.VerdictAnswer.{VerdictAnswer}
 
 -- a lent day whose sizes may be multiplied

@@ -1,5 +1,5 @@
 -- Check 12's first part: the slot lists hold exactly the choices of a schedule, once each. SPEC 5.12. Definitions only.
-use Rattle.std.specs.Prelude.{ℕ, ◌-◌, Bool, not, List, eqb}
+use Rattle.std.specs.Prelude.{ℕ, Bool, not, List, eqb}
 use Rattle.counting.specs.Fold.{gate, any_to}
 use Rattle.counting.specs.Holds.{times}
 use Rattle.slot_lists.specs.Lists.{listed}

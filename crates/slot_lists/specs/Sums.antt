@@ -1,5 +1,5 @@
 -- Sums per slot: of 1 they are the lengths of the lists, of the mins they are the covered counts. SPEC 5.2, 5.4. Definitions only.
-use Rattle.std.specs.Prelude.{ℕ, suc, ◌-◌, Bool, eqb}
+use Rattle.std.specs.Prelude.{ℕ, suc, Bool, eqb}
 use Rattle.counting.specs.Fold.{gate, sum_to}
 
 -- an entry names slot s

@@ -1,5 +1,5 @@
 -- The walk from one schedule to the next: SPEC 5.5 to 5.9. A schedule is a function from choices to entries: 0 is none, s + 1 is slot s. Definitions only.
-use Rattle.std.specs.Prelude.{ℕ, ◌+◌, ◌-◌, ◌*◌, cond, List, eqb, ltb, set}
+use Rattle.std.specs.Prelude.{ℕ, ◌+◌, ◌*◌, cond, List, eqb, ltb, set}
 use Rattle.counting.specs.Fold.{fold_to}
 use Rattle.scheduling.specs.Schedule.{of_entry}
 use Rattle.slot_lists.specs.Lists.{left_by}

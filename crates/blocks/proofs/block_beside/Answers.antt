@@ -1,4 +1,4 @@
-use Rattle.std.proofs.Common.{refl, ◌-◌, arith, true}
+use Rattle.std.proofs.Common.{refl, arith}
 use Rattle.blocks.specs.BlocksLaws.{shares, row_none, row_more, row_all}
 use Rattle.blocks.proofs.block_beside.Goals as goal
 

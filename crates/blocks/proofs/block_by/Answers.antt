@@ -1,4 +1,4 @@
-use Rattle.std.proofs.Common.{arith, ◌-◌, true, false}
+use Rattle.std.proofs.Common.{arith}
 use Rattle.blocks.specs.BlocksLaws.{by_is_in, by_unscheduled, by_is_not_in, by_other}
 use Rattle.blocks.proofs.block_by.Goals as goal
 

@@ -1,4 +1,3 @@
-use Rattle.std.proofs.Common.{◌-◌}
 use Rattle.blocks.proofs.block_constraint.Goals as goal
 
 pub block_by-requires : goal.block_by-requires

@@ -1,4 +1,4 @@
-use Rattle.std.proofs.Common.{arith, ap, ◌∙◌, ◌-◌}
+use Rattle.std.proofs.Common.{arith, ap, ◌∙◌}
 use Rattle.input_data.specs.Bytes.{day_of}
 use Rattle.input_data.specs.Day.{constraint_of_numbers}
 use Rattle.blocks.specs.BlocksLaws.{blocks_none, blocks_more, blocks_all, blockable, constraint_in}

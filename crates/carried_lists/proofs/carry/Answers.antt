@@ -1,4 +1,3 @@
-use Rattle.std.proofs.Common.{◌-◌, true, false}
 use Rattle.slot_lists.specs.WalkLaws.{walking_start, walking_visits, walking_more, walking_all}
 use Rattle.carried_lists.proofs.carry.Goals as goal
 

@@ -1,4 +1,4 @@
-use Rattle.std.proofs.Common.{◌-◌, arith, rules, true}
+use Rattle.std.proofs.Common.{arith, rules}
 use Rattle.edge_groups.specs.Names.{dependent_names}
 use Rattle.edge_groups.specs.Stored.{groups_eq, groups_start, groups_step, groups_all}
 use Rattle.edge_groups.specs.Bounds.{room_after, groups_few, start_none, start_more, start_within}

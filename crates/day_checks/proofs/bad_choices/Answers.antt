@@ -1,4 +1,4 @@
-use Rattle.std.proofs.Common.{◌≡◌, sym, ap, ◌∙◌, false, ◌||◌, ◌-◌, min, arith}
+use Rattle.std.proofs.Common.{◌≡◌, sym, ap, ◌∙◌, false, ◌||◌, min, arith}
 use Rattle.counting.specs.Fold.{any_to}
 use Rattle.counting.specs.FoldLaws.{fold_none}
 use Rattle.counting.specs.Tests.{any_more, places_all}

@@ -1,4 +1,3 @@
-use Rattle.std.proofs.Common.{◌-◌}
 use Rattle.input_data.specs.Checks.{day_number}
 use Rattle.day_checks.proofs.day_number.Goals as goal
 

@@ -1,4 +1,4 @@
-use Rattle.std.proofs.Common.{ap, ◌∙◌, ◌-◌}
+use Rattle.std.proofs.Common.{ap, ◌∙◌}
 use Rattle.input_data.specs.Checks.{many_constraints, first_of, late_number}
 use Rattle.input_data.specs.Bytes.{day_of}
 use Rattle.input_data.specs.BytesLaws.{choosers_of, choices_of_lem, slots_of, scheduling_list_of, assignment_list_of}

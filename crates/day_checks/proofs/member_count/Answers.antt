@@ -1,4 +1,4 @@
-use Rattle.std.proofs.Common.{◌≡◌, sym, ap, ◌∙◌, ◌-◌, min, arith, rules, get_or}
+use Rattle.std.proofs.Common.{◌≡◌, sym, ap, ◌∙◌, min, arith, rules, get_or}
 use Rattle.counting.specs.Fold.{sum_to}
 use Rattle.counting.specs.FoldLaws.{fold_none, fold_more}
 use Rattle.counting.specs.Sums.{sum_places}

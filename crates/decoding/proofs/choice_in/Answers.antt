@@ -1,4 +1,3 @@
-use Rattle.std.proofs.Common.{◌-◌}
 use Rattle.decoding.specs.Decoding.{finds, front_is}
 use Rattle.decoding.proofs.choice_in.Goals as goal
 

@@ -1,4 +1,4 @@
-use Rattle.std.proofs.Common.{◌-◌, ap, arith, true, false}
+use Rattle.std.proofs.Common.{ap, arith}
 use Rattle.counting.specs.Tests.{so}
 use Rattle.scheduling.specs.Schedule.{entry_at}
 use Rattle.decoding.specs.Decoding.{search_start, search_on, search_end}

@@ -1,4 +1,4 @@
-use Rattle.std.proofs.Common.{◌-◌, arith, rules, true, false}
+use Rattle.std.proofs.Common.{arith, rules}
 use Rattle.decoding.specs.Decoding.{resize, rows_none, rows_length, plan_more, plan_all}
 use Rattle.decoding.proofs.decode.Goals as goal
 

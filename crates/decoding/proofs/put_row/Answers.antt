@@ -1,4 +1,4 @@
-use Rattle.std.proofs.Common.{◌-◌, refl, le_refl, arith, rules, true, false}
+use Rattle.std.proofs.Common.{refl, le_refl, arith, rules}
 use Rattle.counting.specs.WrittenLaws.{fill_none, fill_more, fill_length, fill_all}
 use Rattle.decoding.specs.Decoding.{row_in, resize}
 use Rattle.counting.specs.Sums.{grid_lt}

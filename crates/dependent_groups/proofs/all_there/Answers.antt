@@ -1,4 +1,4 @@
-use Rattle.std.proofs.Common.{◌∙◌, ◌-◌, arith, rules, true}
+use Rattle.std.proofs.Common.{◌∙◌, arith, rules}
 use Rattle.edge_groups.specs.Names.{chooser_names}
 use Rattle.edge_groups.specs.Stored.{there_start, there_step, there_all}
 use Rattle.dependent_groups.proofs.all_there.Goals as goal

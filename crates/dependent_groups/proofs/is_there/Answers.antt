@@ -1,4 +1,3 @@
-use Rattle.std.proofs.Common.{◌-◌, true, false}
 use Rattle.mip_flow.specs.IndexLaws.{number_at}
 use Rattle.edge_groups.specs.Grouping.{there_none, there_one}
 use Rattle.dependent_groups.proofs.is_there.Goals as goal

@@ -1,4 +1,4 @@
-use Rattle.std.proofs.Common.{arith, ◌-◌, true, false}
+use Rattle.std.proofs.Common.{arith}
 use Rattle.counting.specs.Tests.{so}
 use Rattle.edge_groups.specs.Names.{chooser_names}
 use Rattle.edge_groups.specs.Stored.{stored_group, stored_blocked}

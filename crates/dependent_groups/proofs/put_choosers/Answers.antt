@@ -1,4 +1,4 @@
-use Rattle.std.proofs.Common.{◌-◌, arith, rules, true}
+use Rattle.std.proofs.Common.{arith, rules}
 use Rattle.edge_groups.specs.Stored.{groups_start, groups_step, groups_all}
 use Rattle.edge_groups.specs.Bounds.{room_after, choosers_few, row_le}
 use Rattle.mip_flow.specs.IndexLaws.{number_at}

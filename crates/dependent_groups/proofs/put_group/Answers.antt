@@ -1,4 +1,3 @@
-use Rattle.std.proofs.Common.{◌-◌, true, false}
 use Rattle.edge_groups.specs.Stored.{groups_none, groups_eq}
 use Rattle.edge_groups.specs.Bounds.{room_less, rows_le}
 use Rattle.edge_groups.specs.Grouping.{group_one, group_other}

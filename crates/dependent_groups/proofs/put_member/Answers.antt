@@ -1,4 +1,3 @@
-use Rattle.std.proofs.Common.{◌-◌, true, false}
 use Rattle.counting.specs.WrittenLaws.{put_empty, put_eq}
 use Rattle.edge_groups.specs.Stored.{storing}
 use Rattle.mip_flow.specs.IndexLaws.{number_at}

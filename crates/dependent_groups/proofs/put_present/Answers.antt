@@ -1,4 +1,4 @@
-use Rattle.std.proofs.Common.{◌-◌, arith, rules, true}
+use Rattle.std.proofs.Common.{arith, rules}
 use Rattle.counting.specs.Fold.{join_to}
 use Rattle.counting.specs.WrittenLaws.{put_empty, put_length}
 use Rattle.edge_groups.specs.Names.{member_name_at, chooser_names}

@@ -1,4 +1,3 @@
-use Rattle.std.proofs.Common.{◌-◌, true, false}
 use Rattle.edge_groups.specs.Stored.{put_there, put_missing}
 use Rattle.edge_groups.proofs.put_edge.Goals as goal
 

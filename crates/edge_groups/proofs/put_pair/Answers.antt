@@ -1,4 +1,4 @@
-use Rattle.std.proofs.Common.{[], ◌∷◌, arith, ◌-◌, true, false}
+use Rattle.std.proofs.Common.{[], ◌∷◌, arith}
 use Rattle.edge_groups.specs.Stored.{two_there, stored_group, stored_blocked}
 use Rattle.edge_groups.specs.Bounds.{present_length}
 use Rattle.edge_groups.proofs.put_pair.Goals as goal

@@ -1,4 +1,3 @@
-use Rattle.std.proofs.Common.{◌-◌}
 use Rattle.counting.specs.WrittenLaws.{put_eq, put_then}
 use Rattle.edge_groups.specs.Stored.{room_for_one, two_present}
 use Rattle.edge_groups.proofs.put_two.Goals as goal

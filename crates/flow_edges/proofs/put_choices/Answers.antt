@@ -1,4 +1,4 @@
-use Rattle.std.proofs.Common.{◌-◌, arith, rules, true}
+use Rattle.std.proofs.Common.{arith, rules}
 use Rattle.counting.specs.WrittenLaws.{put_start, put_step, put_all}
 use Rattle.mip_flow.specs.Edges.{place_at, scheduled}
 use Rattle.mip_flow.specs.Stored.{choices_of, choices_room, scheduled_most}

@@ -1,4 +1,4 @@
-use Rattle.std.proofs.Common.{◌+◌, ◌*◌, ◌≤◌, arith, length, ◌-◌}
+use Rattle.std.proofs.Common.{◌+◌, ◌*◌, ◌≤◌, arith, length}
 use Rattle.slot_lists.specs.ListsLaws.{part_length, part_at}
 use Rattle.counting.specs.WrittenLaws.{put_eq}
 use Rattle.scheduling.specs.Schedule.{entry_at}

@@ -1,4 +1,4 @@
-use Rattle.std.proofs.Common.{◌-◌, suc-mul, mul-le-mul_right, arith, rules, true}
+use Rattle.std.proofs.Common.{suc-mul, mul-le-mul_right, arith, rules}
 use Rattle.counting.specs.WrittenLaws.{put_start, put_step, put_all}
 use Rattle.counting.specs.Fold.{sum_to}
 use Rattle.scheduling.specs.Schedule.{entry_at}

@@ -1,7 +1,6 @@
-use Rattle.std.proofs.Common.{◌-◌, ◌∙◌, w32, arith, rules, true}
+use Rattle.std.proofs.Common.{◌∙◌, w32, arith, rules}
 use Rattle.counting.specs.Signed.{back}
 use Rattle.counting.specs.WrittenLaws.{fill_none, fill_more, fill_length, fill_all}
-use Rattle.mip_flow_static_data.specs.Nodes.{choice_supply}
 use Rattle.mip_flow_static_data.proofs.put_choice_supplies.Goals as goal
 
 pub loop-k-init : goal.loop-k-init

@@ -1,4 +1,4 @@
-use Rattle.std.proofs.Common.{◌-◌, refl, zero-add, arith, rules}
+use Rattle.std.proofs.Common.{refl, zero-add, arith, rules}
 use Rattle.counting.specs.WrittenLaws.{fill_none, fill_more, fill_length, fill_all}
 use Rattle.mip_flow_static_data.proofs.put_chooser_supplies.Goals as goal
 

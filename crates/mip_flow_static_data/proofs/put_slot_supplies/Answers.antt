@@ -1,4 +1,4 @@
-use Rattle.std.proofs.Common.{◌-◌, ◌∙◌, w32, arith, rules, true}
+use Rattle.std.proofs.Common.{◌∙◌, w32, arith, rules}
 use Rattle.counting.specs.Signed.{back}
 use Rattle.counting.specs.WrittenLaws.{fill_none, fill_more, fill_length, fill_all}
 use Rattle.mip_flow_static_data.proofs.put_slot_supplies.Goals as goal

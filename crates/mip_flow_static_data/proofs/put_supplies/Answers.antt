@@ -1,4 +1,4 @@
-use Rattle.std.proofs.Common.{◌++◌, ◌+◌, ◌*◌, arith, length-append, ◌-◌}
+use Rattle.std.proofs.Common.{◌++◌, ◌+◌, ◌*◌, arith, length-append}
 use Rattle.counting.specs.Fold.{table_to}
 use Rattle.counting.specs.Lists.{length_table}
 use Rattle.counting.specs.WrittenLaws.{written_then}

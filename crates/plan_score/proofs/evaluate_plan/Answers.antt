@@ -1,4 +1,3 @@
-use Rattle.std.proofs.Common.{◌-◌, true, false}
 use Rattle.counting.specs.Tests.{so}
 use Rattle.plan_score.specs.Evaluate.{evaluated}
 use Rattle.plan_score.proofs.evaluate_plan.Goals as goal

@@ -1,4 +1,4 @@
-use Rattle.std.proofs.Common.{◌∙◌, arith, ◌-◌}
+use Rattle.std.proofs.Common.{◌∙◌, arith}
 use Rattle.seat_counts.specs.Laws.{greatest_small, weighing, minor_holds}
 use Rattle.input_data.specs.Bytes.{day_of}
 use Rattle.plan_score.proofs.score_of.Goals as goal

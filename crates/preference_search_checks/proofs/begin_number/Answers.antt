@@ -1,9 +1,9 @@
-use Rattle.std.proofs.Common.{◌∙◌, ◌-◌, true, false}
+use Rattle.std.proofs.Common.{◌∙◌}
 use Rattle.counting.specs.Tests.{so}
 use Rattle.input_data.specs.Bytes.{day_of}
 use Rattle.input_data.specs.Numbers.{number_refused, number_else}
 use Rattle.preference_search_checks.specs.Checks.{beside_levels}
-use Rattle.preference_search_checks.specs.Numbers.{Opening, begin_number_lem, begin_passed}
+use Rattle.preference_search_checks.specs.Numbers.{begin_number_lem, begin_passed}
 use Rattle.preference_search_checks.proofs.begin_number.Goals as goal
 
 pub returns-then-number-ne0 : goal.returns-then-number-ne0

@@ -1,4 +1,3 @@
-use Rattle.std.proofs.Common.{◌-◌}
 use Rattle.preference_search_checks.specs.Checks.{held_number}
 use Rattle.preference_search_checks.proofs.held_number.Goals as goal
 

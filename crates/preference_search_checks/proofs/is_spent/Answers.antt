@@ -1,4 +1,3 @@
-use Rattle.std.proofs.Common.{◌-◌}
 use Rattle.preference_search_checks.specs.Checks.{spent_at}
 use Rattle.preference_search_checks.proofs.is_spent.Goals as goal
 

@@ -1,4 +1,4 @@
-use Rattle.std.proofs.Common.{◌∙◌, mul-le-mul, arith, ◌-◌, true, false}
+use Rattle.std.proofs.Common.{◌∙◌, mul-le-mul, arith}
 use Rattle.counting.specs.Tests.{so}
 use Rattle.input_data.specs.Bytes.{day_of}
 use Rattle.input_data.specs.Numbers.{number_refused, number_else}

@@ -1,4 +1,4 @@
-use Rattle.std.proofs.Common.{arith, ◌-◌}
+use Rattle.std.proofs.Common.{arith}
 use Rattle.preference_search.specs.Laws.{middle_most}
 use Rattle.preference_search_steps.proofs.ask_again.Goals as goal
 

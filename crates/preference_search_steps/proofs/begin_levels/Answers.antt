@@ -1,4 +1,4 @@
-use Rattle.std.proofs.Common.{◌∙◌, arith, ne_eqb, ◌-◌, true, false}
+use Rattle.std.proofs.Common.{◌∙◌, arith, ne_eqb}
 use Rattle.preference_search.specs.Laws.{start_most}
 use Rattle.preference_search.specs.Steps.{begun_levels}
 use Rattle.preference_search_steps.proofs.begin_levels.Goals as goal

@@ -1,4 +1,4 @@
-use Rattle.std.proofs.Common.{arith, lt-ltb, le-ltb, ◌∙◌, ◌-◌, true, false}
+use Rattle.std.proofs.Common.{arith, lt-ltb, le-ltb, ◌∙◌}
 use Rattle.preference_search.specs.Steps.{next}
 use Rattle.preference_search.specs.Laws.{middle_most}
 use Rattle.preference_search_steps.proofs.go_on.Goals as goal

@@ -1,4 +1,4 @@
-use Rattle.std.proofs.Common.{ℕ, List, ◌≡◌, ◌∙◌, false, mul-le-mul, arith, length, ◌-◌, true}
+use Rattle.std.proofs.Common.{ℕ, List, ◌≡◌, ◌∙◌, false, mul-le-mul, arith, length}
 use Rattle.counting.specs.Tests.{so}
 use Rattle.input_data.specs.Bytes.{day_of, lent_number}
 use Rattle.input_data.specs.BytesLaws.{lent_zero}

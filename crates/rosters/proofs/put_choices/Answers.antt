@@ -1,4 +1,4 @@
-use Rattle.std.proofs.Common.{◌-◌, refl, arith, rules, true}
+use Rattle.std.proofs.Common.{refl, arith, rules}
 use Rattle.counting.specs.WrittenLaws.{put_start, put_step, put_all, put_length}
 use Rattle.assignment.specs.Plan.{choice_row, choices_ordered}
 use Rattle.assignment.specs.Laws.{row_end}

@@ -1,4 +1,4 @@
-use Rattle.std.proofs.Common.{◌-◌, arith, rules, mul-le-mul, true}
+use Rattle.std.proofs.Common.{arith, rules, mul-le-mul}
 use Rattle.counting.specs.WrittenLaws.{put_start, put_step, put_all, put_length}
 use Rattle.assignment.specs.Plan.{roster_row, choosers_ordered}
 use Rattle.assignment.specs.Laws.{row_end}

@@ -1,4 +1,4 @@
-use Rattle.std.proofs.Common.{arith, ◌-◌, true, false}
+use Rattle.std.proofs.Common.{arith}
 use Rattle.rosters.specs.Laws.{put_one, put_no}
 use Rattle.rosters.proofs.put_if.Goals as goal
 

@@ -1,4 +1,4 @@
-use Rattle.std.proofs.Common.{◌-◌, arith, rules, true}
+use Rattle.std.proofs.Common.{arith, rules}
 use Rattle.counting.specs.WrittenLaws.{put_start, put_step, put_all, put_length}
 use Rattle.assignment.specs.Plan.{seat_once, row}
 use Rattle.rosters.specs.Laws.{join_room}

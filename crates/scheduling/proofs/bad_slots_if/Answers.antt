@@ -1,4 +1,3 @@
-use Rattle.std.proofs.Common.{◌-◌, true, false}
 use Rattle.scheduling.proofs.bad_slots_if.Goals as goal
 
 pub bad_slots-requires : goal.bad_slots-requires

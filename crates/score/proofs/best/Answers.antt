@@ -1,4 +1,4 @@
-use Rattle.std.proofs.Common.{sym, ap, ◌∙◌, arith, ◌-◌, true, false}
+use Rattle.std.proofs.Common.{sym, ap, ◌∙◌, arith}
 use Rattle.score.specs.declared.BestScore.TheVariants.{At}
 use Rattle.score.specs.Best.{best_answer}
 use Rattle.score.specs.ListedLaws.{in_many, in_uneven, in_empty, in_done}

@@ -1,4 +1,3 @@
-use Rattle.std.proofs.Common.{◌-◌, true, false}
 use Rattle.score.proofs.Floats.{nan_bits_lem, no_nan}
 use Rattle.counting.specs.Tests.{so}
 use Rattle.score.proofs.bits.Goals as goal

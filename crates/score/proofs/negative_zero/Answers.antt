@@ -1,4 +1,3 @@
-use Rattle.std.proofs.Common.{◌-◌, true, false}
 use lib.Ieee.{of_bits}
 use Rattle.score.proofs.Floats.{zero_no_nan, zero_then_neg, nonzero_neg}
 use Rattle.score.proofs.negative_zero.Goals as goal

@@ -1,4 +1,3 @@
-use Rattle.std.proofs.Common.{◌-◌, true, false}
 use lib.Ieee.{of_bits}
 use Rattle.score.proofs.Floats.{zero_no_nan, zero_then_pos, nonzero_pos}
 use Rattle.score.proofs.positive_zero.Goals as goal

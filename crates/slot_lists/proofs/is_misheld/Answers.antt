@@ -1,4 +1,4 @@
-use Rattle.std.proofs.Common.{◌≡◌, ◌∙◌, ◌-◌, arith}
+use Rattle.std.proofs.Common.{◌≡◌, ◌∙◌, arith}
 use Rattle.slot_lists.specs.Marks.{marks_none, marks_more, marks_all, marks_part}
 use Rattle.slot_lists.proofs.is_misheld.Goals as goal
 

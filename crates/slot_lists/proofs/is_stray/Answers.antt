@@ -1,4 +1,4 @@
-use Rattle.std.proofs.Common.{arith, ◌≡◌, refl, sym, false, ◌||◌, ◌-◌}
+use Rattle.std.proofs.Common.{arith, ◌≡◌, refl, sym, false, ◌||◌}
 use Rattle.counting.specs.FoldLaws.{fold_none}
 use Rattle.counting.specs.Tests.{any_more}
 use Rattle.slot_lists.proofs.is_stray.Goals as goal

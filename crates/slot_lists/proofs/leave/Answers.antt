@@ -1,4 +1,4 @@
-use Rattle.std.proofs.Common.{◌*◌, arith, ◌-◌}
+use Rattle.std.proofs.Common.{◌*◌, arith}
 use native.Mathlib.Nat.{add-sub_cancel_left}
 use Rattle.slot_lists.specs.ListsLaws.{leave_in_part}
 use Rattle.slot_lists.proofs.leave.Goals as goal

@@ -1,4 +1,4 @@
-use Rattle.std.proofs.Common.{arith, ◌≡◌, refl, ◌-◌}
+use Rattle.std.proofs.Common.{arith, ◌≡◌, refl}
 use Rattle.slot_lists.specs.Marks.{noted_none, noted_more}
 use Rattle.slot_lists.proofs.mark_list.Goals as goal
 

@@ -1,4 +1,4 @@
-use Rattle.std.proofs.Common.{◌≡◌, false, ◌-◌, arith, below_none, below_more, eq-eqb, ne_eqb, true}
+use Rattle.std.proofs.Common.{◌≡◌, arith, below_none, below_more, eq-eqb, ne_eqb}
 use Rattle.counting.specs.SearchLaws.{first_none, first_at}
 use Rattle.slot_lists.proofs.place.Goals as goal
 

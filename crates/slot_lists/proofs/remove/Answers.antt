@@ -1,4 +1,4 @@
-use Rattle.std.proofs.Common.{sym, lt-ltb, le-ltb, ◌-◌, true, false}
+use Rattle.std.proofs.Common.{sym, lt-ltb, le-ltb}
 use Rattle.slot_lists.specs.ListsLaws.{removed}
 use Rattle.slot_lists.proofs.remove.Goals as goal
 

@@ -1,4 +1,4 @@
-use Rattle.std.proofs.Common.{◌≡◌, refl, ◌-◌, arith}
+use Rattle.std.proofs.Common.{◌≡◌, refl, arith}
 use lib.ListN.{get_or-replicate}
 use Rattle.scheduling.specs.Schedule.{entry_at}
 use Rattle.slot_lists.specs.SumsLaws.{sums_none, sums_next, sums_most}

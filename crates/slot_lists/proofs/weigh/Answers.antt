@@ -1,4 +1,4 @@
-use Rattle.std.proofs.Common.{◌≡◌, ◌-◌, arith}
+use Rattle.std.proofs.Common.{◌≡◌, arith}
 use Rattle.slot_lists.specs.SumsLaws.{unweighed_none, adds_length, adds_covered, slot_sums_next}
 use Rattle.slot_lists.proofs.weigh.Goals as goal
 

@@ -1,4 +1,3 @@
-use Rattle.std.proofs.Common.{◌-◌, true}
 use Rattle.assignment.proofs.checks.bad_if.Goals as goal
 
 pub bad_plan_for-requires : goal.bad_plan_for-requires

@@ -1,4 +1,4 @@
-use Rattle.std.proofs.Common.{refl, ◌-◌, arith}
+use Rattle.std.proofs.Common.{refl, arith}
 use Rattle.counting.specs.Lists.{padded_none, padded_more, padded_all}
 use Rattle.assignment.proofs.checks.kept_plan.Goals as goal
 

@@ -1,4 +1,4 @@
-use Rattle.std.proofs.Common.{ℕ, Bool, List, ◌≡◌, mul-le-mul, arith, length, ◌-◌, true, false}
+use Rattle.std.proofs.Common.{ℕ, Bool, List, ◌≡◌, mul-le-mul, arith, length}
 use Rattle.counting.specs.Tests.{so}
 use Rattle.input_data.specs.Bytes.{day_of}
 use Rattle.input_data.specs.Checks.{day_number}

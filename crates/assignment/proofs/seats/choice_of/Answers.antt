@@ -1,4 +1,3 @@
-use Rattle.std.proofs.Common.{◌-◌}
 use Rattle.input_data.specs.Numbers.{full_within}
 use Rattle.assignment.proofs.seats.choice_of.Goals as goal
 

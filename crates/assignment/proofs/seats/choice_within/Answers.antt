@@ -1,9 +1,8 @@
-use Rattle.std.proofs.Common.{ℕ, List, length, ◌+◌, ◌*◌, ◌<◌, ◌≤◌, ◌≡◌, ◌∙◌, false, arith, ◌-◌, true}
+use Rattle.std.proofs.Common.{ℕ, List, length, ◌+◌, ◌*◌, ◌<◌, ◌≤◌, ◌≡◌, ◌∙◌, false, arith}
 use Rattle.counting.specs.Tests.{so}
 use Rattle.input_data.specs.Bytes.{day_of, lent_number}
 use Rattle.input_data.specs.Lengths.{Within}
 use Rattle.input_data.specs.declared.Limits.{Limits}
-use Rattle.input_data.specs.BytesLaws.{lent_zero}
 use Rattle.assignment.specs.Calls.{choice, choice_number, choice_lent}
 use Rattle.assignment.specs.Laws.{plan_lent_lem, answer_short, answer_refused, answer_done, asked_row, asked_slot}
 use Rattle.assignment.proofs.seats.choice_within.Goals as goal

@@ -1,4 +1,4 @@
-use Rattle.std.proofs.Common.{◌-◌, refl, sym, ◌∙◌, false, ◌||◌, arith, rules}
+use Rattle.std.proofs.Common.{refl, sym, ◌∙◌, false, ◌||◌, arith, rules}
 use Rattle.counting.specs.FoldLaws.{fold_none, fold_at}
 use Rattle.counting.specs.Tests.{any_more}
 use Rattle.assignment.proofs.seats.has_seat.Goals as goal

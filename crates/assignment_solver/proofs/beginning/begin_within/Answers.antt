@@ -1,4 +1,3 @@
-use Rattle.std.proofs.Common.{◌-◌, true, false}
 use Rattle.counting.specs.Tests.{so}
 use Rattle.preference_search_checks.specs.Numbers.{begin_opening}
 use Rattle.assignment_solver.specs.Laws.{begin_short, begin_refused, begin_done}

@@ -1,4 +1,4 @@
-use Rattle.std.proofs.Common.{◌∙◌, ◌-◌, true, false}
+use Rattle.std.proofs.Common.{◌∙◌}
 use Rattle.counting.specs.Tests.{so}
 use Rattle.assignment.specs.Laws.{seats_most}
 use Rattle.preference_search.specs.Steps.{begun_answer}

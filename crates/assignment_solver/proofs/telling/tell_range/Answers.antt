@@ -1,4 +1,4 @@
-use Rattle.std.proofs.Common.{ℕ, List, true, not, ◌&&◌, ltb, ◌<◌, ◌≤◌, ◌≡◌, ap₂, ◌∙◌, arith, ltb-true, ◌-◌, false}
+use Rattle.std.proofs.Common.{ℕ, List, true, not, ◌&&◌, ltb, ◌<◌, ◌≤◌, ◌≡◌, ap₂, ◌∙◌, arith, ltb-true}
 use Rattle.preference_search.specs.Search.{told}
 use Rattle.preference_search.specs.Laws.{told_over, told_next}
 use borrow.Author.Tests.{not-true}

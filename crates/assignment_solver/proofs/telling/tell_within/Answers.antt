@@ -1,7 +1,7 @@
-use Rattle.std.proofs.Common.{arith, ◌-◌, true, false}
+use Rattle.std.proofs.Common.{arith}
 use Rattle.counting.specs.Tests.{so}
 use Rattle.preference_search.specs.Steps.{told_answer}
-use Rattle.preference_search_checks.specs.Numbers.{Telling, tell_telling, tell_range}
+use Rattle.preference_search_checks.specs.Numbers.{tell_telling, tell_range}
 use Rattle.assignment_solver.specs.Laws.{tell_short, tell_refused, tell_done}
 use Rattle.assignment_solver.proofs.telling.tell_within.Goals as goal
 

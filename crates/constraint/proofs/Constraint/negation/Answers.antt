@@ -1,4 +1,4 @@
-use Rattle.std.proofs.Common.{◌∙◌, ne_eqb, ◌-◌, true, false}
+use Rattle.std.proofs.Common.{◌∙◌, ne_eqb}
 use Rattle.constraint.specs.Kind.{kind_number}
 use Rattle.counting.specs.Tests.{so}
 use Rattle.constraint.specs.Negation.{negation_of}

@@ -1,4 +1,4 @@
-use Rattle.std.proofs.Common.{ne_eqb, ◌-◌}
+use Rattle.std.proofs.Common.{ne_eqb}
 use Rattle.constraint.specs.Kind.{kind_of}
 use Rattle.constraint.proofs.ConstraintType.of.Goals as goal
 

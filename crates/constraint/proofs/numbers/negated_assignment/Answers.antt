@@ -1,4 +1,4 @@
-use Rattle.std.proofs.Common.{arith, ne_eqb, ◌-◌}
+use Rattle.std.proofs.Common.{arith, ne_eqb}
 use Rattle.constraint.specs.Kind.{kind_of}
 use Rattle.constraint.proofs.numbers.negated_assignment.Goals as goal
 

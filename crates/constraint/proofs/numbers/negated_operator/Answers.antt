@@ -1,4 +1,4 @@
-use Rattle.std.proofs.Common.{arith, pos, negsuc, w32, ◌-◌}
+use Rattle.std.proofs.Common.{arith, pos, negsuc, w32}
 use Rattle.counting.specs.Ints.{eq_z}
 use Rattle.counting.specs.Signed.{bits_same, bits_differ}
 use Rattle.constraint.specs.Cases.{operator_of}

@@ -1,4 +1,4 @@
-use Rattle.std.proofs.Common.{◌∙◌, ◌-◌, true, false}
+use Rattle.std.proofs.Common.{◌∙◌}
 use Rattle.counting.specs.Tests.{so}
 use Rattle.edge_groups.specs.Stored.{groups_none, groups_eq}
 use Rattle.edge_groups.specs.Grouping.{names_none, names_same}

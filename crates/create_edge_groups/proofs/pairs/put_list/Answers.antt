@@ -1,4 +1,4 @@
-use Rattle.std.proofs.Common.{◌-◌, arith, rules, true}
+use Rattle.std.proofs.Common.{arith, rules}
 use Rattle.scheduling.specs.Schedule.{entry_at}
 use Rattle.edge_groups.specs.Names.{slot_names}
 use Rattle.edge_groups.specs.Stored.{groups_start, groups_step, groups_all}

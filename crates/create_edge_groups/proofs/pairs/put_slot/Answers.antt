@@ -1,4 +1,3 @@
-use Rattle.std.proofs.Common.{◌-◌}
 use Rattle.edge_groups.specs.Stored.{groups_eq}
 use Rattle.mip_flow.specs.IndexLaws.{number_at}
 use Rattle.edge_groups.specs.Grouping.{part_length, part_choices, part_names}

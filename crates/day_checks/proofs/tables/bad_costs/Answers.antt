@@ -1,4 +1,4 @@
-use Rattle.std.proofs.Common.{sym, ◌∙◌, ◌-◌, arith, rules, pos, get_or, w64}
+use Rattle.std.proofs.Common.{sym, ◌∙◌, arith, rules, pos, get_or, w64}
 use Rattle.counting.specs.FoldLaws.{fold_none, fold_more, fold_at}
 use Rattle.counting.specs.Signed.{back}
 use Rattle.input_data.specs.Checks.{has_bad_costs}

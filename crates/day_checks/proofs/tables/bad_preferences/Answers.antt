@@ -1,4 +1,4 @@
-use Rattle.std.proofs.Common.{sym, ◌∙◌, ◌-◌, arith, rules}
+use Rattle.std.proofs.Common.{sym, ◌∙◌, arith, rules}
 use Rattle.counting.specs.FoldLaws.{fold_none, fold_more, fold_at}
 use Rattle.input_data.specs.Checks.{has_bad_preferences}
 use Rattle.day_checks.proofs.tables.bad_preferences.Goals as goal

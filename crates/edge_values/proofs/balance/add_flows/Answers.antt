@@ -1,4 +1,4 @@
-use Rattle.std.proofs.Common.{◌-◌, ◌≡◌, ◌∙◌, arith, rules, w32, true}
+use Rattle.std.proofs.Common.{◌≡◌, ◌∙◌, arith, rules, w32}
 use Rattle.counting.specs.Signed.{back}
 use Rattle.edge_values.specs.Values.{value_at}
 use Rattle.edge_values.specs.Balance.{flows_none, flows_more, flows_small, flows_at}

@@ -1,4 +1,4 @@
-use Rattle.std.proofs.Common.{◌∙◌, arith, ◌-◌}
+use Rattle.std.proofs.Common.{◌∙◌, arith}
 use Rattle.edge_values.specs.Balance.{flows_small, balance_is}
 use Rattle.edge_values.proofs.balance.some_unbalanced.Goals as goal
 

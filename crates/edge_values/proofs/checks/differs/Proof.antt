@@ -6,7 +6,6 @@ use Rattle.counting.specs.Signed.{back}
 use borrow.Author.Rules.{rules}
 use Rattle.edge_values.proofs.checks.differs.Statement.{statement}
 use Rattle.edge_values.proofs.checks.differs.Tie as tie
-use Rattle.counting.proofs.same.Reads as same_Reads
 
 same-requires : tie.Need-same-requires
 same-requires c κs = search rules

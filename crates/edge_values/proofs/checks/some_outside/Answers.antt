@@ -1,4 +1,4 @@
-use Rattle.std.proofs.Common.{◌-◌, sym, ap, ◌∙◌, false, ◌||◌, arith, rules, ℤ, get_or, w32, true}
+use Rattle.std.proofs.Common.{sym, ap, ◌∙◌, false, ◌||◌, arith, rules, ℤ, get_or, w32}
 use Rattle.counting.specs.FoldLaws.{fold_none, fold_at}
 use Rattle.counting.specs.Signed.{back}
 use Rattle.counting.specs.Tests.{any_more}

@@ -1,4 +1,4 @@
-use Rattle.std.proofs.Common.{◌-◌, sym, ap, ◌∙◌, false, ◌||◌, arith, rules, true}
+use Rattle.std.proofs.Common.{sym, ap, ◌∙◌, false, ◌||◌, arith, rules}
 use Rattle.counting.specs.FoldLaws.{fold_none, fold_at}
 use Rattle.counting.specs.Tests.{any_more}
 use Rattle.edge_values.specs.Values.{is_uneven}

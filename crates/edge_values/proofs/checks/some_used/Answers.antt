@@ -1,4 +1,4 @@
-use Rattle.std.proofs.Common.{◌-◌, sym, ap, ◌∙◌, false, not, ◌||◌, arith, rules, ℤ, pos, w32, true}
+use Rattle.std.proofs.Common.{sym, ap, ◌∙◌, false, not, ◌||◌, arith, rules, ℤ, pos, w32}
 use Rattle.counting.specs.FoldLaws.{fold_none, fold_at}
 use Rattle.counting.specs.Ints.{eq_z}
 use Rattle.counting.specs.Signed.{back}

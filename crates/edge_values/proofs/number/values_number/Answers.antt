@@ -1,4 +1,3 @@
-use Rattle.std.proofs.Common.{◌-◌, true, false}
 use Rattle.counting.specs.Tests.{so}
 use Rattle.input_data.specs.Numbers.{first_applies, first_not}
 use Rattle.edge_values.specs.Number.{buffer_number, balancing}

@@ -1,4 +1,4 @@
-use Rattle.std.proofs.Common.{arith, ◌-◌}
+use Rattle.std.proofs.Common.{arith}
 use Rattle.assignment.specs.Laws.{seats_most}
 use Rattle.feasibility.specs.Checks.{parts_number}
 use Rattle.feasibility.proofs.checks.parts_number.Goals as goal

@@ -1,4 +1,4 @@
-use Rattle.std.proofs.Common.{arith, ◌-◌}
+use Rattle.std.proofs.Common.{arith}
 use Rattle.assignment.specs.Laws.{seats_most}
 use Rattle.feasibility.specs.Laws.{filled_parts}
 use Rattle.feasibility.proofs.plan.all_filled.Goals as goal

@@ -1,4 +1,3 @@
-use Rattle.std.proofs.Common.{◌-◌}
 use Rattle.satisfies_constraints.specs.Constraints.{assignment_met}
 use Rattle.feasibility.proofs.plan.assignment_holds.Goals as goal
 

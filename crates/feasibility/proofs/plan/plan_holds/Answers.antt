@@ -1,4 +1,3 @@
-use Rattle.std.proofs.Common.{◌-◌}
 use Rattle.satisfies_constraints.specs.Constraints.{scheduling_met}
 use Rattle.feasibility.specs.Feasible.{plan_feasible}
 use Rattle.feasibility.proofs.plan.plan_holds.Goals as goal

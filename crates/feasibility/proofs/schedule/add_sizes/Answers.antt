@@ -1,4 +1,4 @@
-use Rattle.std.proofs.Common.{◌≡◌, ◌-◌, arith}
+use Rattle.std.proofs.Common.{◌≡◌, arith}
 use Rattle.feasibility.specs.Laws.{sizes_none, adds_size, size_next}
 use Rattle.feasibility.proofs.schedule.add_sizes.Goals as goal
 

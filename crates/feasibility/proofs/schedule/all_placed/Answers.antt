@@ -1,4 +1,4 @@
-use Rattle.std.proofs.Common.{◌-◌, sym, ap, ◌∙◌, true, ◌&&◌, ◌||◌, arith, rules}
+use Rattle.std.proofs.Common.{sym, ap, ◌∙◌, true, ◌&&◌, ◌||◌, arith, rules}
 use Rattle.assignment.specs.Plan.{is_scheduled}
 use Rattle.counting.specs.FoldLaws.{fold_none, fold_at}
 use Rattle.counting.specs.Tests.{all_more}

@@ -1,4 +1,4 @@
-use Rattle.std.proofs.Common.{◌-◌, ◌≡◌, sym, true, ◌&&◌, arith, rules}
+use Rattle.std.proofs.Common.{◌≡◌, sym, true, ◌&&◌, arith, rules}
 use Rattle.counting.specs.Tests.{all_more}
 use Rattle.counting.specs.FoldLaws.{fold_none}
 use Rattle.feasibility.proofs.schedule.all_seated.Goals as goal

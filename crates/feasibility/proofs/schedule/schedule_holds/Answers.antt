@@ -1,4 +1,4 @@
-use Rattle.std.proofs.Common.{refl, ◌-◌}
+use Rattle.std.proofs.Common.{refl}
 use Rattle.input_data.specs.Bytes.{day_of}
 use Rattle.satisfies_constraints.specs.Constraints.{scheduling_met}
 use Rattle.feasibility.specs.Feasible.{all_placed, schedule_feasible}

@@ -1,4 +1,4 @@
-use Rattle.std.proofs.Common.{refl, mul-le-mul, arith, ◌-◌, true, false}
+use Rattle.std.proofs.Common.{refl, mul-le-mul, arith}
 use Rattle.counting.specs.WrittenLaws.{put_empty}
 use Rattle.mip_flow.specs.Stored.{choices_of, storing_choices, choice_none, put_choice}
 use Rattle.flow_edges.proofs.edges.put_choice.Goals as goal

@@ -1,4 +1,4 @@
-use Rattle.std.proofs.Common.{w64, refl, ◌∙◌, mul-le-mul, arith, ◌-◌, true, false}
+use Rattle.std.proofs.Common.{w64, refl, ◌∙◌, mul-le-mul, arith}
 use Rattle.counting.specs.Signed.{back}
 use Rattle.counting.specs.Sums.{grid_lt}
 use Rattle.counting.specs.Tests.{so}

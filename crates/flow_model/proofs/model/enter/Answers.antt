@@ -1,4 +1,3 @@
-use Rattle.std.proofs.Common.{◌-◌, true, false}
 use Rattle.counting.specs.Tests.{so}
 use Rattle.flow_model.specs.Entering.{input_lent, enter_refused, enter_done}
 use Rattle.flow_model.proofs.model.enter.Goals as goal

@@ -1,9 +1,9 @@
-use Rattle.std.proofs.Common.{refl, ◌-◌}
+use Rattle.std.proofs.Common.{refl}
 use Rattle.mip_flow.specs.Stored.{tables}
-use Rattle.plans.specs.Good.{Good, good}
-use Rattle.plans.specs.Model.{ModelInput, model_input}
-use Rattle.model_buffers.specs.Buffers.{Buffers, buffers, lengths_of}
-use Rattle.flow_model.specs.Building.{Lent, lent, counts_are, weighs_ones, supplying, offered, listed_in, placed, edge_room, choice_room, seats_few, grouping, made}
+use Rattle.plans.specs.Good.{good}
+use Rattle.plans.specs.Model.{model_input}
+use Rattle.model_buffers.specs.Buffers.{buffers, lengths_of}
+use Rattle.flow_model.specs.Building.{lent, counts_are, weighs_ones, supplying, offered, listed_in, placed, edge_room, choice_room, seats_few, grouping, made}
 use Rattle.flow_model.proofs.model.put_model.Goals as goal
 
 pub sums-lens-requires : goal.sums-lens-requires

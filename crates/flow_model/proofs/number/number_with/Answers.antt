@@ -1,4 +1,4 @@
-use Rattle.std.proofs.Common.{refl, ◌∙◌, mul-le-mul, arith, ◌≡◌, false, ◌||◌, ltb, ltb-false, eqb-true, ◌-◌, true}
+use Rattle.std.proofs.Common.{refl, ◌∙◌, mul-le-mul, arith, ◌≡◌, false, ◌||◌, ltb, ltb-false, eqb-true}
 use Rattle.counting.specs.Tests.{so}
 use borrow.Author.Tests.{not-false}
 use Rattle.counting.specs.Tests.{or_split}

@@ -1,4 +1,4 @@
-use Rattle.std.proofs.Common.{w32, ◌-◌}
+use Rattle.std.proofs.Common.{w32}
 use Rattle.counting.specs.Signed.{back}
 use Rattle.input_data.specs.Bytes.{numbers_in}
 use Rattle.input_data.proofs.bytes.numbers_at.Goals as goal

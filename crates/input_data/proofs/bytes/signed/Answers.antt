@@ -1,4 +1,4 @@
-use Rattle.std.proofs.Common.{arith, ◌-◌, w32, lt-ltb, le-ltb, true, false}
+use Rattle.std.proofs.Common.{arith, ◌-◌, w32, lt-ltb, le-ltb}
 use Rattle.counting.specs.Signed.{sub_fits}
 use Rattle.input_data.specs.Bytes.{signed_of}
 use Rattle.input_data.specs.BytesLaws.{low_fits, low_back}

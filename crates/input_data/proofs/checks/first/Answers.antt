@@ -1,4 +1,3 @@
-use Rattle.std.proofs.Common.{◌-◌, true, false}
 use Rattle.input_data.specs.Checks.{first_of}
 use Rattle.input_data.proofs.checks.first.Goals as goal
 

@@ -1,4 +1,4 @@
-use Rattle.std.proofs.Common.{refl, ◌-◌, arith}
+use Rattle.std.proofs.Common.{refl, arith}
 use Rattle.counting.specs.Lists.{filled_none, filled_more, filled_all}
 use Rattle.input_data.specs.Bytes.{day_of}
 use Rattle.input_data.proofs.decode.lengths_of.Goals as goal

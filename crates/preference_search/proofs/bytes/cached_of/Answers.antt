@@ -1,4 +1,3 @@
-use Rattle.std.proofs.Common.{◌-◌}
 use Rattle.preference_search.proofs.bytes.cached_of.Goals as goal
 
 pub returns : goal.returns

@@ -1,4 +1,4 @@
-use Rattle.std.proofs.Common.{◌-◌, refl, arith}
+use Rattle.std.proofs.Common.{refl, arith}
 use Rattle.counting.specs.Lists.{padded_none, padded_more}
 use Rattle.preference_search.specs.Laws.{copied}
 use Rattle.preference_search.proofs.bytes.entries_of.Goals as goal

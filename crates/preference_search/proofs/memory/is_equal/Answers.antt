@@ -1,4 +1,4 @@
-use Rattle.std.proofs.Common.{◌-◌, min, ◌≡◌, sym, ap, ◌∙◌, false, not, ◌||◌, arith}
+use Rattle.std.proofs.Common.{min, ◌≡◌, sym, ap, ◌∙◌, false, not, ◌||◌, arith}
 use Rattle.counting.specs.Fold.{any_to}
 use Rattle.counting.specs.FoldLaws.{fold_none}
 use Rattle.counting.specs.Tests.{any_more, places_all}

@@ -1,4 +1,3 @@
-use Rattle.std.proofs.Common.{◌-◌}
 use Rattle.preference_search.specs.Steps.{remembers}
 use Rattle.preference_search.proofs.memory.is_remembered.Goals as goal
 

@@ -1,4 +1,4 @@
-use Rattle.std.proofs.Common.{◌≡◌, true, ◌-◌}
+use Rattle.std.proofs.Common.{◌≡◌, true}
 use Rattle.preference_search.specs.Search.{is_feasible}
 use Rattle.preference_search.proofs.steps.learn.Goals as goal
 

@@ -1,4 +1,4 @@
-use Rattle.std.proofs.Common.{◌-◌, ◌≡◌, refl, arith, rules, le-leb, length, true, false}
+use Rattle.std.proofs.Common.{◌-◌, ◌≡◌, refl, arith, rules, le-leb, length}
 use borrow.Author.Tests.{lt-leb}
 use Rattle.preference_search.specs.Laws.{below_none, below_more, start_found, start_last}
 use Rattle.preference_search.proofs.steps.start_of.Goals as goal

@@ -1,4 +1,4 @@
-use Rattle.std.proofs.Common.{◌<◌, ◌-◌, sym, ◌∙◌, true, ◌&&◌, arith, rules}
+use Rattle.std.proofs.Common.{◌<◌, sym, ◌∙◌, true, ◌&&◌, arith, rules}
 use Rattle.counting.specs.FoldLaws.{fold_none, fold_at}
 use Rattle.counting.specs.Tests.{all_more}
 use Rattle.input_data.specs.Bytes.{day_of}

@@ -1,4 +1,4 @@
-use Rattle.std.proofs.Common.{eq-eqb, ne_eqb, ◌-◌, true, false}
+use Rattle.std.proofs.Common.{eq-eqb, ne_eqb}
 use Rattle.satisfies_constraints.specs.ByNumber.{meets_plan}
 use Rattle.satisfies_constraints.specs.Laws.{row_in, both_scheduled}
 use Rattle.satisfies_constraints.proofs.assignment_constraints.meets_plan.Goals as goal

@@ -1,4 +1,4 @@
-use Rattle.std.proofs.Common.{◌-◌, sym, ap₂, ◌∙◌, true, ◌&&◌, arith, rules, eqb}
+use Rattle.std.proofs.Common.{sym, ap₂, ◌∙◌, true, ◌&&◌, arith, rules, eqb}
 use Rattle.counting.specs.Tests.{all_more}
 use Rattle.counting.specs.FoldLaws.{fold_none, fold_at}
 use Rattle.satisfies_constraints.specs.Constraints.{same_choosers}

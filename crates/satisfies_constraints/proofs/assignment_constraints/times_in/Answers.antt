@@ -1,4 +1,4 @@
-use Rattle.std.proofs.Common.{◌-◌, ◌+◌, refl, sym, ◌∙◌, arith, mul-le-mul, rules}
+use Rattle.std.proofs.Common.{◌+◌, refl, sym, ◌∙◌, arith, mul-le-mul, rules}
 use Rattle.counting.specs.FoldLaws.{fold_none, fold_at}
 use Rattle.satisfies_constraints.specs.Constraints.{times_in}
 use Rattle.satisfies_constraints.specs.Laws.{sum_more}

@@ -1,4 +1,4 @@
-use Rattle.std.proofs.Common.{◌-◌, ◌+◌, sym, ◌∙◌, arith, rules}
+use Rattle.std.proofs.Common.{◌+◌, sym, ◌∙◌, arith, rules}
 use Rattle.counting.specs.FoldLaws.{fold_none, fold_at}
 use Rattle.satisfies_constraints.specs.Laws.{sum_more}
 use Rattle.satisfies_constraints.proofs.scheduling_constraints.count_entries.Goals as goal

@@ -1,4 +1,4 @@
-use Rattle.std.proofs.Common.{◌∙◌, ap₂, w32, ◌-◌, true, false}
+use Rattle.std.proofs.Common.{◌∙◌, ap₂, w32}
 use Rattle.satisfies_constraints.specs.Laws.{offset_none, offset_one, offset_two}
 use Rattle.counting.specs.Signed.{back}
 use Rattle.counting.specs.Ints.{eq_z}

@@ -1,4 +1,4 @@
-use Rattle.std.proofs.Common.{eq-eqb, ne_eqb, w32, ◌-◌, true, false}
+use Rattle.std.proofs.Common.{eq-eqb, ne_eqb, w32}
 use Rattle.counting.specs.Signed.{back}
 use Rattle.satisfies_constraints.specs.ByNumber.{meets_schedule}
 use Rattle.satisfies_constraints.proofs.scheduling_constraints.meets_schedule.Goals as goal

@@ -1,4 +1,4 @@
-use Rattle.std.proofs.Common.{◌<◌, ◌-◌, sym, ◌∙◌, true, ◌&&◌, arith, rules, w32}
+use Rattle.std.proofs.Common.{◌<◌, sym, ◌∙◌, true, ◌&&◌, arith, rules, w32}
 use Rattle.counting.specs.FoldLaws.{fold_none, fold_at}
 use Rattle.counting.specs.Signed.{back}
 use Rattle.counting.specs.Tests.{all_more}

@@ -1,4 +1,4 @@
-use Rattle.std.proofs.Common.{arith, refl, ◌-◌}
+use Rattle.std.proofs.Common.{arith, refl}
 use Rattle.counting.specs.Lists.{filled_none, filled_more, filled_all}
 use Rattle.schedule_state.specs.Bytes.{state_in}
 use Rattle.schedule_state.proofs.bytes.covered_of.Goals as goal

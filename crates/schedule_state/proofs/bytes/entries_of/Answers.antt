@@ -1,4 +1,4 @@
-use Rattle.std.proofs.Common.{arith, refl, ◌∙◌, ◌-◌}
+use Rattle.std.proofs.Common.{arith, refl, ◌∙◌}
 use Rattle.counting.specs.Lists.{filled_none, filled_more, filled_all}
 use Rattle.schedule_state.specs.BytesLaws.{entries_in}
 use Rattle.schedule_state.proofs.bytes.entries_of.Goals as goal

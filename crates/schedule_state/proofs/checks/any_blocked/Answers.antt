@@ -1,4 +1,4 @@
-use Rattle.std.proofs.Common.{arith, ◌≡◌, sym, false, ◌||◌, ◌-◌}
+use Rattle.std.proofs.Common.{arith, ◌≡◌, sym, false, ◌||◌}
 use Rattle.counting.specs.FoldLaws.{fold_none}
 use Rattle.counting.specs.Tests.{any_more}
 use Rattle.schedule_state.proofs.checks.any_blocked.Goals as goal

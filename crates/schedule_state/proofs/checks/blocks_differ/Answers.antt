@@ -1,4 +1,4 @@
-use Rattle.std.proofs.Common.{arith, ◌≡◌, sym, false, ◌||◌, ◌-◌, true}
+use Rattle.std.proofs.Common.{arith, ◌≡◌, sym, false, ◌||◌}
 use Rattle.counting.specs.FoldLaws.{fold_none}
 use Rattle.counting.specs.Tests.{any_more, so}
 use Rattle.schedule_state.specs.Bytes.{state_in}

@@ -1,4 +1,3 @@
-use Rattle.std.proofs.Common.{◌-◌}
 use Rattle.schedule_state.specs.Good.{slots_most, small_day, looks, inconsistent_is}
 use Rattle.schedule_state.proofs.checks.is_inconsistent.Goals as goal
 

@@ -1,4 +1,4 @@
-use Rattle.std.proofs.Common.{sym, ◌∙◌, ◌-◌, true}
+use Rattle.std.proofs.Common.{sym, ◌∙◌}
 use Rattle.counting.specs.Tests.{so}
 use Rattle.input_data.specs.Bytes.{day_of}
 use Rattle.blocks.specs.BlocksLaws.{unfilled}

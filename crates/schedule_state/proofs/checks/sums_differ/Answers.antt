@@ -1,4 +1,4 @@
-use Rattle.std.proofs.Common.{get_or, arith, ◌≡◌, sym, ap, ◌∙◌, false, not, ◌||◌, eqb, ℕ, ◌-◌}
+use Rattle.std.proofs.Common.{get_or, arith, ◌≡◌, sym, ap, ◌∙◌, false, not, ◌||◌, eqb, ℕ}
 use Rattle.counting.specs.FoldLaws.{fold_none}
 use Rattle.counting.specs.Tests.{any_more}
 use Rattle.schedule_state.specs.BytesLaws.{covered_in_lem}

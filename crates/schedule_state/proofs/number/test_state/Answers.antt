@@ -1,4 +1,4 @@
-use Rattle.std.proofs.Common.{arith, ◌-◌, true, false}
+use Rattle.std.proofs.Common.{arith}
 use Rattle.input_data.specs.Bytes.{day_of}
 use Rattle.schedule_state.specs.Bytes.{state_in}
 use Rattle.schedule_state.specs.Good.{kept_names, weighs_of}

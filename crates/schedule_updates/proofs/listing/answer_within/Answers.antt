@@ -1,4 +1,4 @@
-use Rattle.std.proofs.Common.{arith, refl, ◌∙◌, ◌≤◌, mul-le-mul, leb, length, ◌-◌, true, false}
+use Rattle.std.proofs.Common.{arith, refl, ◌∙◌, ◌≤◌, mul-le-mul, leb, length}
 use Rattle.counting.specs.Tests.{so}
 use Rattle.input_data.specs.BytesLaws.{lent_short}
 use Rattle.schedule_state.specs.Bytes.{not_state}

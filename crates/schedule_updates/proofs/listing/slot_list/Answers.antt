@@ -1,4 +1,4 @@
-use Rattle.std.proofs.Common.{arith, refl, ◌+◌, ◌≤◌, length, ◌-◌}
+use Rattle.std.proofs.Common.{arith, refl, ◌+◌, ◌≤◌, length}
 use native.Mathlib.Nat.{add-sub_cancel_left}
 use Rattle.input_data.specs.Lengths.{full_day}
 use Rattle.input_data.specs.Numbers.{full_within}

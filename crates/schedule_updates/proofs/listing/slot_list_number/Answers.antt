@@ -1,4 +1,3 @@
-use Rattle.std.proofs.Common.{◌-◌}
 use Rattle.input_data.specs.Lengths.{full_day}
 use Rattle.schedule_updates.specs.Numbers.{list_number_lem}
 use Rattle.schedule_updates.proofs.listing.slot_list_number.Goals as goal

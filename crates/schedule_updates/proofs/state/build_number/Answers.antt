@@ -1,4 +1,3 @@
-use Rattle.std.proofs.Common.{◌-◌}
 use Rattle.schedule_updates.specs.Numbers.{build_lent_lem}
 use Rattle.schedule_updates.proofs.state.build_number.Goals as goal
 

@@ -1,4 +1,4 @@
-use Rattle.std.proofs.Common.{arith, length, ◌-◌, true, false}
+use Rattle.std.proofs.Common.{arith, length}
 use Rattle.input_data.specs.BytesLaws.{lent_short}
 use Rattle.schedule_updates.specs.Numbers.{leaves_refused, build_long, build_carriable, build_summed, built_leaves}
 use Rattle.schedule_updates.proofs.state.build_within.Goals as goal

@@ -1,4 +1,3 @@
-use Rattle.std.proofs.Common.{◌-◌}
 use Rattle.input_data.specs.Bytes.{day_of}
 use Rattle.schedule_state.specs.Good.{blocking}
 use Rattle.schedule_updates.specs.Numbers.{carry_of, carried_of}

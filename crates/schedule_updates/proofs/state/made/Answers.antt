@@ -1,4 +1,3 @@
-use Rattle.std.proofs.Common.{◌-◌}
 use Rattle.input_data.specs.Bytes.{day_of}
 use Rattle.blocks.specs.BlocksLaws.{unfilled, blocks_table}
 use Rattle.schedule_state.specs.State.{blocked_at}

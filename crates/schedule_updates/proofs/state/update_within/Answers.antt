@@ -1,4 +1,4 @@
-use Rattle.std.proofs.Common.{arith, false, ◌||◌, refl, length, ◌-◌, true}
+use Rattle.std.proofs.Common.{arith, false, ◌||◌, refl, length}
 use Rattle.input_data.specs.BytesLaws.{lent_short}
 use Rattle.scheduling.specs.Handed.{not_schedule}
 use Rattle.schedule_state.specs.Bytes.{not_state}

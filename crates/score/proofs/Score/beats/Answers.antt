@@ -1,4 +1,3 @@
-use Rattle.std.proofs.Common.{◌-◌}
 use Rattle.score.specs.Before.{beats_held}
 use Rattle.score.proofs.Score.beats.Goals as goal
 

@@ -1,4 +1,4 @@
-use Rattle.std.proofs.Common.{◌∙◌, ◌-◌, true, false}
+use Rattle.std.proofs.Common.{◌∙◌}
 use Rattle.score.specs.Before.{both_finite, left_finite, right_finite, none_finite}
 use Rattle.score.proofs.Score.cmp.Goals as goal
 

@@ -1,4 +1,3 @@
-use Rattle.std.proofs.Common.{◌-◌, true, false}
 use Rattle.counting.specs.Tests.{so}
 use Rattle.score.specs.Before.{plain_order}
 use Rattle.score.proofs.Score.cmp_finite.Goals as goal

@@ -1,4 +1,3 @@
-use Rattle.std.proofs.Common.{◌-◌}
 use Rattle.score.specs.Before.{less_is}
 use Rattle.score.proofs.Score.is_less.Goals as goal
 

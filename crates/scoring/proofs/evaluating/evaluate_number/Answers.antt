@@ -1,4 +1,4 @@
-use Rattle.std.proofs.Common.{◌&&◌, length, ◌-◌, true, false}
+use Rattle.std.proofs.Common.{◌&&◌, length}
 use Rattle.counting.specs.Tests.{so}
 use Rattle.input_data.specs.Bytes.{day_of}
 use Rattle.input_data.specs.BytesLaws.{lent_short, lent_many, lent_refused, lent_else}

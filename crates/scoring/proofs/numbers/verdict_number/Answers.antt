@@ -1,4 +1,4 @@
-use Rattle.std.proofs.Common.{false, mul-le-mul, arith, length, ◌-◌, true}
+use Rattle.std.proofs.Common.{false, mul-le-mul, arith, length}
 use Rattle.assignment.specs.Calls.{beside_plan}
 use Rattle.input_data.specs.Bytes.{day_of}
 use Rattle.input_data.specs.BytesLaws.{lent_short, lent_refused, lent_else}

@@ -1,4 +1,3 @@
-use Rattle.std.proofs.Common.{◌-◌, true, false}
 use Rattle.satisfies_constraints.specs.Constraints.{scheduling_met}
 use Rattle.counting.specs.Tests.{so}
 use Rattle.input_data.specs.Bytes.{day_of, lent_number}

@@ -1,4 +1,4 @@
-use Rattle.std.proofs.Common.{◌-◌, ◌≡◌, sym, true, ◌&&◌, arith, rules}
+use Rattle.std.proofs.Common.{◌≡◌, sym, true, ◌&&◌, arith, rules}
 use Rattle.counting.specs.FoldLaws.{fold_none}
 use Rattle.seat_counts.specs.Seats.{none_twice}
 use Rattle.seat_counts.specs.Laws.{fold_next, unmarked_all, unmarked_more, row_seated}

@@ -1,4 +1,4 @@
-use Rattle.std.proofs.Common.{◌-◌, ◌≡◌, arith, rules}
+use Rattle.std.proofs.Common.{◌≡◌, arith, rules}
 use Rattle.scheduling.specs.Schedule.{entry_at}
 use Rattle.seat_counts.specs.Laws.{parts_none, parts_more, part_most}
 use Rattle.seat_counts.proofs.plan.part_counts.Goals as goal

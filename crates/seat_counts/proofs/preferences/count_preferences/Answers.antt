@@ -1,4 +1,4 @@
-use Rattle.std.proofs.Common.{◌-◌, arith, rules, true}
+use Rattle.std.proofs.Common.{arith, rules}
 use Rattle.seat_counts.specs.Laws.{holds_none, holds_more, holds_all, counting}
 use Rattle.seat_counts.proofs.preferences.count_preferences.Goals as goal
 

@@ -1,4 +1,4 @@
-use Rattle.std.proofs.Common.{◌-◌, arith, rules, true}
+use Rattle.std.proofs.Common.{arith, rules}
 use Rattle.seat_counts.specs.Laws.{added_none, added_more, added_most, added_all, preference_small}
 use Rattle.seat_counts.proofs.preferences.count_row.Goals as goal
 

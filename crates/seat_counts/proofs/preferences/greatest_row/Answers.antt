@@ -1,4 +1,4 @@
-use Rattle.std.proofs.Common.{◌-◌, max, ◌≡◌, sym, ◌∙◌, arith, rules, true}
+use Rattle.std.proofs.Common.{max, ◌≡◌, sym, ◌∙◌, arith, rules}
 use Rattle.counting.specs.FoldLaws.{fold_none}
 use Rattle.seat_counts.specs.Preferences.{greatest_row}
 use Rattle.seat_counts.specs.Laws.{fold_next}

@@ -1,4 +1,4 @@
-use Rattle.std.proofs.Common.{◌+◌, ◌-◌, ◌≡◌, sym, arith}
+use Rattle.std.proofs.Common.{◌+◌, ◌≡◌, sym, arith}
 use lib.Ieee.{of_bits, add, binary32}
 use Rattle.counting.specs.FoldLaws.{fold_none}
 use Rattle.seat_counts.specs.Preferences.{minor_to, minor_of}
