@@ -5,7 +5,6 @@ use Rattle.input_data.specs.Lengths.{full_day}
 use Rattle.scoring.specs.Calls.{evaluate_lent}
 use Rattle.scoring.specs.declared.ScoreAnswer.{ScoreAnswer}
 use Rattle.scoring.specs.declared.solution.Solution.{Solution}
-use Rattle.scoring.specs.declared.solution.Solution.TheVariants as Solution
 use Rattle.seating.specs.Scores.{score_bits}
 use Rattle.seating.specs.declared.verdicts.ScoreBitsAnswer.{ScoreBitsAnswer}
 

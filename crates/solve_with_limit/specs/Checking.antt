@@ -23,7 +23,7 @@ use Rattle.scheduling.specs.Schedule.{entry_at}
 use Rattle.schedule_state.specs.Bytes.{not_state}
 use Rattle.schedule_state.specs.Good.{choosers_most, choices_most, slots_most, part_in}
 use Rattle.mip_flow_static_data.specs.Nodes.{node_count, chooser_supply, choice_supply, slot_supply, supplies}
-use Rattle.model_buffers.specs.Buffers.{Buffers, buffers, lengths_of}
+use Rattle.model_buffers.specs.Buffers.{Buffers, lengths_of}
 use Rattle.model_buffers.specs.Lengths.{short_values}
 use Rattle.model_buffers.specs.declared.Counts.{Counts}
 use Rattle.model_buffers.specs.declared.Lengths.{Lengths}

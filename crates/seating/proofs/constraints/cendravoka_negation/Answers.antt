@@ -1,4 +1,4 @@
-use Rattle.std.proofs.Common.{◌∙◌, ap, w32, ◌-◌, true, false}
+use Rattle.std.proofs.Common.{◌∙◌, ap, w32}
 use Rattle.counting.specs.Tests.{so}
 use Rattle.constraint.specs.Cases.{operator_of, extra_operand}
 use Rattle.constraint.specs.Numbers.{has_operator, negated_extra}

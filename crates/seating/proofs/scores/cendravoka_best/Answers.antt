@@ -1,4 +1,4 @@
-use Rattle.std.proofs.Common.{◌∙◌, ap, ◌-◌}
+use Rattle.std.proofs.Common.{◌∙◌, ap}
 use Rattle.seating.specs.Scores.{best_bits}
 use Rattle.seating.specs.ScoresLaws.{near}
 use Rattle.seating.proofs.scores.cendravoka_best.Goals as goal

@@ -1,4 +1,4 @@
-use Rattle.std.proofs.Common.{refl, ◌-◌, true, false}
+use Rattle.std.proofs.Common.{refl}
 use Rattle.solve_with_limit.specs.Answers.{model_refused_lem, model_done}
 use Rattle.solve_with_limit.proofs.model.build_model_within.Goals as goal
 

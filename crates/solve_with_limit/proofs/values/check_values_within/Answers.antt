@@ -1,7 +1,6 @@
-use Rattle.std.proofs.Common.{refl, length, ◌-◌, true, false}
+use Rattle.std.proofs.Common.{refl, length}
 use Rattle.counting.specs.Tests.{so}
-use Rattle.model_buffers.specs.Buffers.{Buffers, buffers}
-use Rattle.plans.specs.Model.{ModelInput}
+use Rattle.model_buffers.specs.Buffers.{buffers}
 use Rattle.flow_model.specs.Lent.{lent_input}
 use Rattle.solve_with_limit.specs.Answers.{short_is, call_refused, values_refused, values_done}
 use Rattle.solve_with_limit.specs.Checking.{day_long, can_check, check_says, can_decode, decodes_to}
