@@ -1,5 +1,5 @@
 -- The first half of demand 3: what is carried from schedule to schedule agrees with a fresh build. SPEC 5.16, 12.1 to 12.3.
--- Statement only; the proof is `carried_agrees` in CarriedAgrees.antt.
+-- Statement only; the proof is `carried_agrees` in proofs/CarriedAgrees.antt.
 --
 -- It rests on the contracts of `build` and `update` in schedule_updates' src/state.rt, the promises Built and Updated of schedule_state's Calls.antt, which cite the definitions used here:
 --   build    gives build_number, and where that is 0 the state built_state and the slot lists built_lists

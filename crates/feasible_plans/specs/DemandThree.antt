@@ -1,4 +1,4 @@
--- Demand 3, whole: SPEC 12. Statement only; the proof is `demand_three` in DemandThreeHolds.antt.
+-- Demand 3, whole: SPEC 12. Statement only; the proof is `demand_three` in proofs/DemandThreeHolds.antt.
 --
 -- It is one claim about a list of updates, over the definitions that the contracts cite:
 --   build, update           Rattle.schedule_state Calls.antt; runs of them: Rattle.carried_states Agreement.antt

@@ -1,4 +1,4 @@
--- Which plans can be had from a state at a limit: SPEC 7.8, 7.9, 12.5. Statement only; the proofs are `plans_seatable`, `same_plans` and `within_limit` in Plans.antt.
+-- Which plans can be had from a state at a limit: SPEC 7.8, 7.9, 12.5. Statement only; the proofs are `plans_seatable`, `same_plans` and `within_limit` in proofs/Plans.antt.
 --
 -- It rests on the contract of `check_values`, the promise ValuesLent of flow_model's Calls.antt, at full_day: it cites plan_of,
 -- and enter_number and values_number, of which check_number is made.

@@ -1,4 +1,4 @@
--- The order of 32-bit patterns by sign and magnitude, which is IEEE 754's total_order of what they stand for: SPEC 11.7. Definitions only.
+-- The order of 32-bit patterns by sign and magnitude, which is IEEE 754's totalOrder of what they stand for: SPEC 11.7. Definitions only.
 use Rattle.std.specs.Prelude.{ℕ, ◌/◌, ◌%◌, Bool, true, false, eqb, leb}
 
 -- the sign bit is set; 2147483648 is 2 ^ 31

@@ -1,4 +1,4 @@
--- score.rs: IEEE 754's total_order, the order of scores, the best of a list, and worked examples.
+-- score.rs: IEEE 754's totalOrder, the order of scores, the best of a list, and worked examples.
 pub mod TotalOrder
 pub mod BitOrder
 pub mod Magnitude

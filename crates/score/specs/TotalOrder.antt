@@ -1,4 +1,4 @@
--- IEEE 754-2019, clause 5.10, total_order: SPEC 11.7. Definitions only.
+-- IEEE 754-2019, clause 5.10, totalOrder: SPEC 11.7. Definitions only.
 -- A NaN is one datum here: the quiet one of positive sign, 7FC00000 (SPEC 2.16).
 use Rattle.std.specs.Prelude.{Bool, true, false, cond, not, ◌&&◌, zero, suc, Float}
 use Rattle.std.specs.Float.{nan, inf, fin}
