@@ -17,9 +17,8 @@ fn main() {
             println!("cargo::rustc-link-search=native={}", folder.display());
             println!("cargo::rustc-link-lib=static=seating");
         }
-        Err(_) => println!(
-            "cargo::error=there is no {}: run tools/archive first",
-            archive.display()
-        ),
+        Err(_) => {
+            println!("cargo::error=there is no {}: run tools/archive first", archive.display())
+        }
     }
 }
