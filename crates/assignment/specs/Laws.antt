@@ -39,7 +39,7 @@ pub record PlanAccepted (l : Limits) (d : InputData) (plan : List ℕ) (short as
   pub day : Accepted l d
   pub long : short ≡ false
   pub inside : asked ≡ false
-  pub seats_in_lem : seats d ≤ plan_length l
+  pub seats_in : seats d ≤ plan_length l
   pub plan_in : seats d ≤ length plan
 
 pub plan_accepted : (l : Limits) (d : InputData) (plan : List ℕ) (short asked : Bool) (rest : ℕ) → Within l → day_number l d (beside_plan l (length plan) short asked) rest ≡ 0 → PlanAccepted l d plan short asked
@@ -49,7 +49,7 @@ plan_accepted l d plan short asked rest w e =
     let q : (not (eqb (length plan) (plan_length l)) ≡ false) × (short ≡ false) = or_split p.lengths in
     let long : length plan ≡ plan_length l = eqb-true (length plan) (plan_length l) (not-false _ q.0) in
     let fits : seats d ≤ plan_length l = mul-le-mul a.choosers a.slots in
-    record { day = a; long = q.1; inside = p.asked; seats_in_lem = fits; plan_in = omega (arith, long, fits) }
+    record { day = a; long = q.1; inside = p.asked; seats_in = fits; plan_in = omega (arith, long, fits) }
 
 -- the number of such a call is 0
 pub plan_number_lem : (l : Limits) (d : InputData) (plan : List ℕ) (short asked : Bool) → Within l → plan_number l d plan short asked ≡ 0 → PlanAccepted l d plan short asked
@@ -67,7 +67,7 @@ plan_lent_lem l day plan short asked h =
 pub chooser_row : (l : Limits) (d : InputData) (plan : List ℕ) (short asked : Bool) (c : ℕ) → Within l → PlanAccepted l d plan short asked → c < d.choosers → (c * d.slots + d.slots ≤ length plan) × (c * d.slots + d.slots ≤ 512)
 chooser_row l d plan short asked c w p h =
     let e : c * d.slots + d.slots ≤ seats d = row_end d.slots h in
-    (omega (arith, e, p.plan_in), omega (arith, e, p.seats_in_lem, mul-le-mul w.choosers w.slots))
+    (omega (arith, e, p.plan_in), omega (arith, e, p.seats_in, mul-le-mul w.choosers w.slots))
 
 -- a call that is asked about a chooser and something else
 pub asked_row : (l : Limits) (d : InputData) (plan : List ℕ) (c : ℕ) (other : Bool) → Within l → plan_number l d plan false (leb d.choosers c || other) ≡ 0 → (c * d.slots + d.slots ≤ length plan) × (c * d.slots + d.slots ≤ 512)

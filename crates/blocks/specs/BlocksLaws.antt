@@ -34,7 +34,7 @@ pub record Blocked (g : ℕ → ℕ → Bool) (b b' : List Bool) : Type 0 where
 -- what blocking by a constraint asks: the kinds that block name a chooser and a choice
 pub record Blockable (kind chooser x : ℕ) (b : List Bool) : Type 0 where
   pub long : length b ≡ 2048
-  pub is_in_lem : kind ≡ 65537 → (chooser < 64) × (x < 32)
+  pub is_in : kind ≡ 65537 → (chooser < 64) × (x < 32)
   pub is_not_in : kind ≡ 65538 → (chooser < 64) × (x < 32)
 
 -- .. of every constraint of a list
@@ -137,7 +137,7 @@ module _ (sch : List ℕ) (chooser x : ℕ) where
 -- ---- what a list of constraints blocks
 
 pub blockable : {l : ConstraintList} → Blocking l → (j : ℕ) → j < l.count → (b : List Bool) → length b ≡ 2048 → Blockable (kind_number (constraint_at l j).kind) (constraint_at l j).left (target_operand (constraint_at l j).right) b
-blockable h j c b n = record { long = n; is_in_lem = λ e. h.each j c (inl e); is_not_in = λ e. h.each j c (inr e) }
+blockable h j c b n = record { long = n; is_in = λ e. h.each j c (inl e); is_not_in = λ e. h.each j c (inr e) }
 
 -- an assignment constraint of a day, where it stands in the day's bytes
 pub constraint_in : (b : List ℕ) (j : ℕ) → j < 32 → constraint_of_numbers (numbers_in b 1276 j) ≡ constraint_at (day_of b).assignment j

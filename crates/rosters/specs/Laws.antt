@@ -93,7 +93,7 @@ choosers_in l d plan k size w e =
       few = omega (arith, p.day.choosers, w.choosers);
       short = omega (arith, p.day.slots, w.slots);
       inside = p.plan_in;
-      room = omega (arith, choosers_most d.choosers d.slots plan k, p.seats_in_lem, ltb-false size (roster_length l) p.long);
+      room = omega (arith, choosers_most d.choosers d.slots plan k, p.seats_in, ltb-false size (roster_length l) p.long);
     }
 
 pub choices_in : (l : Limits) (d : InputData) (plan : List ℕ) (c size : ℕ) → Within l → choices_number l d plan c size ≡ 0 → ChoicesIn d.choices d.slots plan c size
@@ -105,7 +105,7 @@ choices_in l d plan c size w e =
       short = omega (arith, p.day.slots, w.slots);
       chooser = omega (arith, h, p.day.choosers, w.choosers);
       inside = (chooser_row l d plan (short_roster l size) (leb d.choosers c) c w p h).0;
-      room = omega (arith, choices_most d.choices d.slots plan c, row_end d.slots h, p.seats_in_lem, ltb-false size (roster_length l) p.long);
+      room = omega (arith, choices_most d.choices d.slots plan c, row_end d.slots h, p.seats_in, ltb-false size (roster_length l) p.long);
     }
 
 -- ---- what a call leaves

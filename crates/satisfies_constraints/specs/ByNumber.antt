@@ -201,7 +201,7 @@ module _ {choosers choices slots : ℕ} {l : ConstraintList} (a : AcceptedList c
 
 -- the choosers that a constraint names are of the day
 pub record OperandsIn (choosers kind left right : ℕ) : Type 0 where
-  pub is_in_lem : kind ≡ 65537 → left < choosers
+  pub is_in : kind ≡ 65537 → left < choosers
   pub is_not_in : kind ≡ 65538 → left < choosers
   pub same : kind ≢ 65536 → kind ≢ 65537 → kind ≢ 65538 → (left < choosers) × (right < choosers)
 
@@ -224,10 +224,10 @@ module _ {choosers choices slots : ℕ} {l : ConstraintList} (a : AcceptedList c
   pub operands_in : OperandsIn choosers (numbers_at l j).kind (numbers_at l j).left (numbers_at l j).target
   unfolding kind_of
   operands_in = four asked.kind (simp (le-ltb _ _ (a.kind_least j h), le-ltb _ _ (a.kind_most j h)))
-      (λ q. record { is_in_lem = λ z. absurd (omega arith); is_not_in = λ z. absurd (omega arith); same = λ z y x. absurd (z q) })
-      (λ q. record { is_in_lem = λ z. left_chooser (rw q); is_not_in = λ z. absurd (omega arith); same = λ z y x. absurd (y q) })
-      (λ q. record { is_in_lem = λ z. absurd (omega arith); is_not_in = λ z. left_chooser (rw q); same = λ z y x. absurd (x q) })
-      (λ q. record { is_in_lem = λ z. absurd (omega arith); is_not_in = λ z. absurd (omega arith); same = λ z y x. (left_chooser (rw q), right_chooser (rw q)) })
+      (λ q. record { is_in = λ z. absurd (omega arith); is_not_in = λ z. absurd (omega arith); same = λ z y x. absurd (z q) })
+      (λ q. record { is_in = λ z. left_chooser (rw q); is_not_in = λ z. absurd (omega arith); same = λ z y x. absurd (y q) })
+      (λ q. record { is_in = λ z. absurd (omega arith); is_not_in = λ z. left_chooser (rw q); same = λ z y x. absurd (x q) })
+      (λ q. record { is_in = λ z. absurd (omega arith); is_not_in = λ z. absurd (omega arith); same = λ z y x. (left_chooser (rw q), right_chooser (rw q)) })
 
   pub plan_numbers : (sch plan : List ℕ) → meets_plan choosers choices slots sch plan (numbers_at l j).kind (numbers_at l j).left (numbers_at l j).target ≡ assignment_at choosers choices slots sch plan l j
   plan_numbers sch plan =

@@ -21,7 +21,7 @@ unfolding plan_number
 returns-then-number-ne0 c = let a = c.args in number_refused a.limits (day_of a.day.now) (beside_plan a.limits (length a.plan.now) a.short a.asked) _ c.day_number-number.ensures c.if-number-ne0.true
 
 pub overflow_mul-seats : goal.overflow_mul-seats
-overflow_mul-seats c = let w = c.requires.0 in rw (c.slots.ensures, c.choosers.ensures) (omega (arith, (passed c.args.limits c.args.day.now c.args.plan.now c.args.short c.args.asked c.requires.0 c.day_number-number.ensures c.if-number-ne0.false).seats_in_lem, mul-le-mul w.choosers w.slots))
+overflow_mul-seats c = let w = c.requires.0 in rw (c.slots.ensures, c.choosers.ensures) (omega (arith, (passed c.args.limits c.args.day.now c.args.plan.now c.args.short c.args.asked c.requires.0 c.day_number-number.ensures c.if-number-ne0.false).seats_in, mul-le-mul w.choosers w.slots))
 
 pub bad_plan-bad-requires : goal.bad_plan-bad-requires
 bad_plan-bad-requires c = rw (c.slots.ensures, c.choosers.ensures) (passed c.args.limits c.args.day.now c.args.plan.now c.args.short c.args.asked c.requires.0 c.day_number-number.ensures c.if-number-ne0.false).plan_in

@@ -12,7 +12,7 @@ unfolding meets_plan
 returns-then-kind-eq65536 c = simp (eq-eqb _ _ c.if-kind-eq65536.true, both_scheduled c.args.entries.now c.args.left c.args.right c.entry_of.ensures c.entry_of-scheduled.ensures c.if-entry_of-scheduled.false)
 
 pub is_in-requires : goal.is_in-requires
-is_in-requires c = row_in c.requires.0 (c.requires.2.is_in_lem c.if-kind-eq65537.true)
+is_in-requires c = row_in c.requires.0 (c.requires.2.is_in c.if-kind-eq65537.true)
 
 pub returns-then-kind-eq65537 : goal.returns-then-kind-eq65537
 unfolding meets_plan
