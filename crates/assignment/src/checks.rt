@@ -1,52 +1,32 @@
 // Check 13, and the number of a call that is handed a plan.
-ghost use Rattle.std.specs.Prelude.{◌≡◌, ◌≤◌, length, leb, eqb, true, ◌||◌, ◌&&◌};
+ghost use Rattle.std.specs.Prelude.{◌≡◌, ◌≤◌, length, true, ◌&&◌};
 ghost use Rattle.input_data.specs.Bytes.{IsDay, day_of};
 ghost use Rattle.input_data.specs.Lengths.{Within};
-ghost use Rattle.scheduling.specs.Schedule.{entry_at};
 ghost use Rattle.assignment.specs.Plan.{bad_plan, bad_plan_for, kept_plan};
 ghost use Rattle.assignment.specs.Calls.{plan_number};
 
-use counting::at_most;
+use counting::{any_below, front};
 use input_data::{Beside, Limits};
 
-// 13, without a schedule. No early exit, so that the walk is quick.
+// 13, without a schedule.
+#[tactic(auto, unfolding(crate::specs::Plan::bad_plan))]
 pub fn bad_plan(choices: usize, seats: usize, plan: &[u8]) -> bool
     requires { seats ≤ length plan.now }
     ensures { result ≡ bad_plan choices seats plan.now }
 {
-    let mut bad = false;
-    let mut i = 0;
-    while i < seats {
-        bad = bad | (choices <= plan[i] as usize);
-        i += 1;
-    }
-    bad
+    any_below(seats, |i| choices <= plan[i] as usize)
 }
 
-// Whether an entry is no choice, or one without a slot.
-fn is_unseated(choices: usize, entries: &[u8], choice: u8) -> bool
-    requires { (choices ≤ 32) × (length entries.now ≡ 32) }
-    ensures { result ≡ (leb choices choice || eqb (entry_at entries.now choice) 0) }
-{
-    let k = choice as usize;
-    if k < choices {
-        return entries[k] == 0;
-    }
-    true
-}
-
-// 13, beside a schedule.
+// 13, beside a schedule: an entry is no choice, or one without a slot.
+#[tactic(auto, unfolding(crate::specs::Plan::bad_plan_for))]
 pub fn bad_plan_for(choices: usize, seats: usize, entries: &[u8], plan: &[u8]) -> bool
     requires { (choices ≤ 32) × (length entries.now ≡ 32) × (seats ≤ length plan.now) }
     ensures { result ≡ bad_plan_for choices seats entries.now plan.now }
 {
-    let mut bad = false;
-    let mut i = 0;
-    while i < seats {
-        bad = bad | is_unseated(choices, entries, plan[i]);
-        i += 1;
-    }
-    bad
+    any_below(seats, |i| {
+        let k = plan[i] as usize;
+        choices <= k || entries[k] == 0
+    })
 }
 
 // 13 of a plan that is there.
@@ -54,10 +34,7 @@ pub fn bad_if(there: bool, choices: usize, seats: usize, entries: &[u8], plan: &
     requires { there ≡ true → (choices ≤ 32) × (length entries.now ≡ 32) × (seats ≤ length plan.now) }
     ensures { result ≡ (there && bad_plan_for choices seats entries.now plan.now) }
 {
-    if there {
-        return bad_plan_for(choices, seats, entries, plan);
-    }
-    false
+    there && bad_plan_for(choices, seats, entries, plan)
 }
 
 // The plan as it is handed back: 0 past the last seat.
@@ -65,18 +42,12 @@ pub fn kept_plan(seats: usize, plan: &[u8]) -> [u8; 512]
     requires { seats ≤ length plan.now }
     ensures { result ≡ kept_plan seats plan.now }
 {
-    let n = at_most(512, seats);
-    let mut out = [0u8; 512];
-    let mut i = 0;
-    while i < n {
-        out[i] = plan[i];
-        i += 1;
-    }
-    out
+    front(plan, seats)
 }
 
 // `short`: the roster that the call is lent is too short. Sizes are tested before any product of them
 // is formed.
+#[tactic(auto, using(crate::specs::Laws::plan_accepted, input_data::specs::Numbers::number_refused, input_data::specs::Numbers::number_else), unfolding(crate::specs::Calls::plan_number))]
 pub fn plan_number(limits: Limits, day: &[u8], plan: &[u8], short: bool, asked: bool) -> u32
     requires { Within limits × IsDay day.now }
     ensures { result ≡ plan_number limits (day_of day.now) plan.now short asked }

@@ -14,6 +14,7 @@ use preference_search_checks::begin_number;
 use preference_search_steps::{begin_levels, hand_back, recall, refuse};
 
 // The first ask of tested input, or the end without an ask.
+#[tactic(auto, using(assignment::specs::Laws::seats_most), unfolding(preference_search::specs::Steps::begun_answer))]
 fn begun(
     day: &[u8],
     schedule: &[u8],
@@ -31,25 +32,24 @@ fn begun(
         return recall(seats(day), greedy, entries, cached);
     }
     if greedy {
-        let most = input_data::max_preference(day);
-        let known = nothing_known(false);
         return hand_back(
             true,
             true,
             1,
-            most,
+            input_data::max_preference(day),
             0,
             0,
             0,
             0,
             entries,
-            known,
+            nothing_known(false),
             cached_of(cached),
         );
     }
     begin_levels(levels, bound, entries, cached)
 }
 
+#[tactic(auto, using(crate::specs::Laws::begin_short, crate::specs::Laws::begin_refused, crate::specs::Laws::begin_done, preference_search_checks::specs::Numbers::begin_opening))]
 fn begin_within(
     limits: Limits,
     day: &[u8],
@@ -75,6 +75,7 @@ fn begin_within(
 // Begins a search for a plan of the schedule at the least level from the bound on. `cached` is what an
 // earlier search of the same day remembered: that it is of the same day is the caller's duty, that it is
 // of the same greedy setting is looked at.
+#[tactic(auto, using(input_data::specs::Numbers::full_within))]
 pub fn begin(
     day: &[u8],
     schedule: &[u8],
@@ -85,6 +86,13 @@ pub fn begin(
 ) -> SearchAnswer
     ensures { result ≡ begin_lent full_day day.now schedule.now levels.now bound greedy cached.now }
 {
-    let limits = input_data::full_day();
-    begin_within(limits, day, schedule, levels, bound, greedy, cached)
+    begin_within(
+        input_data::full_day(),
+        day,
+        schedule,
+        levels,
+        bound,
+        greedy,
+        cached,
+    )
 }

@@ -18,6 +18,7 @@ use preference_search_checks::tell_number;
 use preference_search_steps::{ask_again, end, go_on, refuse};
 
 // The answer to a greedy ask ends the search.
+#[tactic(auto, using(crate::specs::Laws::told_greedy_lem))]
 fn tell_greedy(day: &[u8], search: &[u8], res: LimitSolveResult, plan: &[u8]) -> SearchAnswer
     requires { Telling day.now search.now res plan.now }
     ensures { result ≡ told_greedy (day_of day.now) (search_in search.now) (told res plan.now) }
@@ -30,6 +31,7 @@ fn tell_greedy(day: &[u8], search: &[u8], res: LimitSolveResult, plan: &[u8]) ->
 }
 
 // The answer at the middle of a range ends the search or narrows the range.
+#[tactic(auto, using(preference_search::specs::Laws::told_over, preference_search::specs::Laws::told_next, crate::specs::Laws::told_asks, preference_search::specs::Laws::middle_least, preference_search::specs::Laws::middle_most, preference_search::specs::Laws::above_start, preference_search::specs::Laws::high_most))]
 fn tell_range(
     day: &[u8],
     search: &[u8],
@@ -44,7 +46,7 @@ fn tell_range(
     let low = word(search, 16);
     let high = word(search, 20);
     let m = middle_of(low, high);
-    if !is_feasible(res) & (m < high) {
+    if !is_feasible(res) && m < high {
         let mark = is_infeasible(res) & flag(search, 3);
         return ask_again(levels, search, m + 1, high, entries, mark);
     }
@@ -60,6 +62,7 @@ fn tell_range(
     go_on(levels, asks, start, from, to, entries, known, cached)
 }
 
+#[tactic(auto, using(crate::specs::Laws::tell_short, crate::specs::Laws::tell_refused, crate::specs::Laws::tell_done, preference_search_checks::specs::Numbers::tell_telling, preference_search_checks::specs::Numbers::tell_range), unfolding(preference_search::specs::Steps::told_answer))]
 fn tell_within(
     limits: Limits,
     day: &[u8],
@@ -85,6 +88,7 @@ fn tell_within(
 }
 
 // Tells a search the answer to its ask. The plan is looked at where the result is feasible.
+#[tactic(auto, using(input_data::specs::Numbers::full_within))]
 pub fn tell(
     day: &[u8],
     search: &[u8],

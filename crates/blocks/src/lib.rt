@@ -17,11 +17,8 @@ fn block_beside(blocks: &mut [bool; 2048], entries: &[u8; 32], chooser: usize, x
 {
     let slot = entries[x];
     let base = 32 * chooser;
-    let mut k = 0;
-    while k < 32 {
-        let at = base + k;
-        blocks[at] = blocks[at] | ((entries[k] == slot) & (k != x));
-        k += 1;
+    for k in 0..32 {
+        blocks[base + k] |= (entries[k] == slot) & (k != x);
     }
 }
 
@@ -31,16 +28,11 @@ fn block_by(blocks: &mut [bool; 2048], entries: &[u8; 32], kind: u32, chooser: u
     ensures { Blocked (blocks_for kind entries.now chooser x) blocks.old blocks.new }
 {
     if kind == 65537 {
-        if entries[x] == 0 {
-            return;
+        if entries[x] != 0 {
+            block_beside(blocks, entries, chooser, x);
         }
-        block_beside(blocks, entries, chooser, x);
-        return;
-    }
-    if kind == 65538 {
-        let at = 32 * chooser + x;
-        blocks[at] = true;
-        return;
+    } else if kind == 65538 {
+        blocks[32 * chooser + x] = true;
     }
 }
 
@@ -48,9 +40,13 @@ fn block_constraint(blocks: &mut [bool; 2048], entries: &[u8; 32], c: Constraint
     requires { Blockable (kind_number c.kind) c.left (target_operand c.right) blocks.old }
     ensures { Blocked (blocks_by c entries.now) blocks.old blocks.new }
 {
-    let kind = c.kind;
-    let right = c.right;
-    block_by(blocks, entries, kind.number(), c.left, right.operand());
+    block_by(
+        blocks,
+        entries,
+        u32::from(c.kind),
+        c.left,
+        c.right.operand(),
+    );
 }
 
 // The blocks of a schedule, in a table in which nothing is blocked yet: what each assignment constraint blocks.
@@ -58,11 +54,8 @@ pub fn fill_blocks(blocks: &mut [bool; 2048], day: &[u8], entries: &[u8; 32])
     requires { IsDay day.now × Unfilled (day_of day.now).assignment blocks.old }
     ensures { Blocks (blocked_by (day_of day.now).assignment entries.now) blocks.new }
 {
-    let count = input_data::assignment_count(day);
-    let mut j = 0;
-    while j < count {
-        let c = input_data::numbers_at(day, 1276, j);
-        block_constraint(blocks, entries, c.constraint());
-        j += 1;
+    for j in 0..input_data::assignment_count(day) {
+        let c = Constraint::from(input_data::numbers_at(day, 1276, j));
+        block_constraint(blocks, entries, c);
     }
 }

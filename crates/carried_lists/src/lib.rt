@@ -22,10 +22,9 @@ fn depart(
         return;
     }
     let slot = entry as usize - 1;
-    let len = lens[slot];
-    slot_lists::leave(lists, stride, slot, len as usize, choice);
-    lens[slot] = len - 1;
-    covered[slot] = covered[slot] - min;
+    slot_lists::leave(lists, stride, slot, lens[slot] as usize, choice);
+    lens[slot] -= 1;
+    covered[slot] -= min;
 }
 
 // A choice joins the list of the slot that its entry names, and that slot's sums.
@@ -45,10 +44,9 @@ fn arrive(
         return;
     }
     let slot = entry as usize - 1;
-    let len = lens[slot];
-    slot_lists::enter(lists, stride, slot, len as usize, choice);
-    lens[slot] = len + 1;
-    covered[slot] = covered[slot] + min;
+    slot_lists::enter(lists, stride, slot, lens[slot] as usize, choice);
+    lens[slot] += 1;
+    covered[slot] += min;
 }
 
 // A visit of one choice: nothing where old and new slot agree.
@@ -86,11 +84,9 @@ pub fn carry<'a>(
     requires { Carries stride n last.now next.now mins.now (length lists.old) lens.old covered.old }
     ensures { ListsCarried stride n last.now next.now mins.now lists.old lists.new lens.new covered.new }
 {
-    let mut i = 0;
-    while i < n {
+    for i in 0..n {
         visit(
             lists, lens, covered, stride, last[i], next[i], i as u8, mins[i],
         );
-        i += 1;
     }
 }

@@ -3,3 +3,4 @@ pub mod Kind
 pub mod Cases
 pub mod Negation
 pub mod Numbers
+pub mod Answered

@@ -9,7 +9,11 @@ use Rattle.constraint.specs.declared.ConstraintTarget.TheVariants as Target
 use Rattle.constraint.specs.declared.ConstraintExtra.{ConstraintExtra}
 use Rattle.constraint.specs.declared.ConstraintExtra.TheVariants as Extra
 use Rattle.constraint.specs.declared.Constraint.{Constraint}
-use Rattle.constraint.specs.declared.NegationAnswer.{NegationAnswer}
+
+-- the number of an answer, and the constraint, or zeros where it is refused
+pub record NegationAnswer : Type 0 where
+  pub number : ℕ
+  pub constraint : Constraint
 
 -- kinds without a negation become Invalid; a size limit keeps its kind
 abbrev pub negated_kind : ConstraintType → ConstraintType

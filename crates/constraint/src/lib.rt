@@ -1,47 +1,49 @@
 // constraint.rs: the kinds of constraints, their numbers, and negation.
 #![tactic(auto)]
 
-pub mod numbers;
-
 ghost use Rattle.std.specs.Prelude.{◌≡◌};
 ghost use Rattle.constraint.specs.Kind.{kind_number, kind_of, is_valid, is_scheduling, is_assignment};
 ghost use Rattle.constraint.specs.Cases.{operator_number, operator_of, negated_operator, case_of_target, target_operand, target_of, case_of_extra, extra_operand, extra_of};
-ghost use Rattle.constraint.specs.Negation.{negated_kind, negation_refused, negated_with, size_limit_negation, negation_of, constraint, constraint_of};
+ghost use Rattle.constraint.specs.Answered.{extra_read, negation_answered};
+ghost use Rattle.constraint.specs.Negation.{negated_kind, negation_of, constraint, constraint_of};
+
+use refusal::Refusal;
 
 // The least number of an assignment constraint.
 pub const CONSTRAINT_TYPE_DISCRIMINATION_LIMIT: u32 = 65536;
 
-#[derive(Clone, Copy)]
+#[derive(Clone, Copy, Debug, PartialEq, Eq, Hash)]
 pub enum ConstraintType {
-    Invalid,
-    ChoiceIsInSlot,
-    ChoiceIsNotInSlot,
-    ChoicesAreInSameSlot,
-    ChoicesAreNotInSameSlot,
-    ChoicesHaveOffset,
-    SlotHasLimitedSize,
-    SlotContainsChoice,
-    SlotNotContainsChoice,
-    SlotsHaveSameChoices,
-    ChoicesHaveSameChoosers,
-    ChooserIsInChoice,
-    ChooserIsNotInChoice,
-    ChoosersHaveSameChoices,
-    ChoiceContainsChooser,
-    ChoiceNotContainsChooser,
+    Invalid = 0,
+    ChoiceIsInSlot = 1,
+    ChoiceIsNotInSlot = 2,
+    ChoicesAreInSameSlot = 3,
+    ChoicesAreNotInSameSlot = 4,
+    ChoicesHaveOffset = 5,
+    SlotHasLimitedSize = 6,
+    SlotContainsChoice = 7,
+    SlotNotContainsChoice = 8,
+    SlotsHaveSameChoices = 9,
+    ChoicesHaveSameChoosers = 65536,
+    ChooserIsInChoice = 65537,
+    ChooserIsNotInChoice = 65538,
+    ChoosersHaveSameChoices = 65539,
+    ChoiceContainsChooser = 65540,
+    ChoiceNotContainsChooser = 65541,
 }
 
-#[derive(Clone, Copy)]
+#[derive(Clone, Copy, Debug, PartialEq, Eq, Hash)]
 pub enum SlotSizeLimitOp {
-    Eq,
-    Gt,
-    Geq,
-    Neq,
-    Leq,
-    Lt,
+    Eq = 1,
+    Gt = 2,
+    Geq = 3,
+    Neq = -1,
+    Leq = -2,
+    Lt = -3,
 }
 
-#[derive(Clone, Copy)]
+// The source's own: none is a case of it, beside four that are told apart.
+#[derive(Clone, Copy, Debug, PartialEq, Eq, Hash)]
 pub enum ConstraintTarget {
     None,
     Slot(usize),
@@ -50,14 +52,15 @@ pub enum ConstraintTarget {
     Limit(u32),
 }
 
-#[derive(Clone, Copy)]
+// The source's own too.
+#[derive(Clone, Copy, Debug, PartialEq, Eq, Hash)]
 pub enum ConstraintExtra {
     None,
     Offset(i32),
     SlotSizeLimitOp(SlotSizeLimitOp),
 }
 
-#[derive(Clone, Copy)]
+#[derive(Clone, Copy, Debug, PartialEq, Eq, Hash)]
 pub struct Constraint {
     pub kind: ConstraintType,
     pub left: usize,
@@ -65,42 +68,21 @@ pub struct Constraint {
     pub extra: ConstraintExtra,
 }
 
-// The negation of a constraint, or 9 and an Invalid constraint of zeros.
-#[derive(Clone, Copy)]
-pub struct NegationAnswer {
-    pub number: u32,
-    pub constraint: Constraint,
+// The number of a kind, as in the Rust.
+impl From<ConstraintType> for u32 {
+    ghost from_gives = { λ k n. n ≡ kind_number k };
+
+    fn from(kind: ConstraintType) -> u32 {
+        kind as u32
+    }
 }
 
-impl ConstraintType {
-    // The number of a kind, as in the Rust.
-    pub fn number(self) -> u32
-        ensures { result ≡ kind_number self }
-    {
-        match self {
-            ConstraintType::Invalid => 0,
-            ConstraintType::ChoiceIsInSlot => 1,
-            ConstraintType::ChoiceIsNotInSlot => 2,
-            ConstraintType::ChoicesAreInSameSlot => 3,
-            ConstraintType::ChoicesAreNotInSameSlot => 4,
-            ConstraintType::ChoicesHaveOffset => 5,
-            ConstraintType::SlotHasLimitedSize => 6,
-            ConstraintType::SlotContainsChoice => 7,
-            ConstraintType::SlotNotContainsChoice => 8,
-            ConstraintType::SlotsHaveSameChoices => 9,
-            ConstraintType::ChoicesHaveSameChoosers => 65536,
-            ConstraintType::ChooserIsInChoice => 65537,
-            ConstraintType::ChooserIsNotInChoice => 65538,
-            ConstraintType::ChoosersHaveSameChoices => 65539,
-            ConstraintType::ChoiceContainsChooser => 65540,
-            ConstraintType::ChoiceNotContainsChooser => 65541,
-        }
-    }
+// The kind of a number. A number that is no kind of the Rust reads as Invalid.
+impl From<u32> for ConstraintType {
+    ghost from_gives = { λ n k. k ≡ kind_of n };
 
-    // The kind of a number. A number that is no kind of the Rust reads as Invalid.
-    pub fn of(number: u32) -> ConstraintType
-        ensures { result ≡ kind_of number }
-    {
+    #[tactic(auto, unfolding(crate::specs::Kind::kind_of))]
+    fn from(number: u32) -> ConstraintType {
         match number {
             1 => ConstraintType::ChoiceIsInSlot,
             2 => ConstraintType::ChoiceIsNotInSlot,
@@ -120,7 +102,41 @@ impl ConstraintType {
             _ => ConstraintType::Invalid,
         }
     }
+}
 
+// The number of an operator, as in the Rust.
+impl From<SlotSizeLimitOp> for i32 {
+    ghost from_gives = { λ op n. n ≡ operator_number op };
+
+    fn from(op: SlotSizeLimitOp) -> i32 {
+        op as i32
+    }
+}
+
+// A number that is no operator.
+#[derive(Clone, Copy, Debug, PartialEq, Eq, Hash)]
+pub struct UnknownOperator(pub i32);
+
+impl TryFrom<i32> for SlotSizeLimitOp {
+    type Error = UnknownOperator;
+
+    ghost try_from_gives = { λ n op. extra_read op ≡ operator_of n };
+
+    #[tactic(auto, unfolding(crate::specs::Cases::operator_of, counting::specs::Ints::eq_z))]
+    fn try_from(number: i32) -> Result<SlotSizeLimitOp, UnknownOperator> {
+        match number {
+            1 => Ok(SlotSizeLimitOp::Eq),
+            2 => Ok(SlotSizeLimitOp::Gt),
+            3 => Ok(SlotSizeLimitOp::Geq),
+            -1 => Ok(SlotSizeLimitOp::Neq),
+            -2 => Ok(SlotSizeLimitOp::Leq),
+            -3 => Ok(SlotSizeLimitOp::Lt),
+            _ => Err(UnknownOperator(number)),
+        }
+    }
+}
+
+impl ConstraintType {
     // The kind of the negation; Invalid for kinds without one. A size limit keeps its kind.
     pub fn negation(self) -> ConstraintType
         ensures { result ≡ negated_kind self }
@@ -148,39 +164,23 @@ impl ConstraintType {
     pub fn is_valid(self) -> bool
         ensures { result ≡ is_valid self }
     {
-        self.number() != 0
+        self != ConstraintType::Invalid
     }
 
     pub fn is_scheduling_constraint(self) -> bool
         ensures { result ≡ is_scheduling self }
     {
-        let number = self.number();
-        (number < CONSTRAINT_TYPE_DISCRIMINATION_LIMIT) & (number != 0)
+        u32::from(self) < CONSTRAINT_TYPE_DISCRIMINATION_LIMIT && self.is_valid()
     }
 
     pub fn is_assignment_constraint(self) -> bool
         ensures { result ≡ is_assignment self }
     {
-        let number = self.number();
-        (CONSTRAINT_TYPE_DISCRIMINATION_LIMIT <= number) & (number != 0)
+        CONSTRAINT_TYPE_DISCRIMINATION_LIMIT <= u32::from(self) && self.is_valid()
     }
 }
 
 impl SlotSizeLimitOp {
-    // The number of an operator, as in the Rust.
-    pub fn number(self) -> i32
-        ensures { result ≡ operator_number self }
-    {
-        match self {
-            SlotSizeLimitOp::Eq => 1,
-            SlotSizeLimitOp::Gt => 2,
-            SlotSizeLimitOp::Geq => 3,
-            SlotSizeLimitOp::Neq => -1,
-            SlotSizeLimitOp::Leq => -2,
-            SlotSizeLimitOp::Lt => -3,
-        }
-    }
-
     pub fn negation(self) -> SlotSizeLimitOp
         ensures { result ≡ negated_operator self }
     {
@@ -235,28 +235,16 @@ impl ConstraintTarget {
 }
 
 impl ConstraintExtra {
-    // The operator of a number, or none.
-    fn operator(number: i32) -> ConstraintExtra
-        ensures { result ≡ operator_of number }
-    {
-        match number {
-            1 => ConstraintExtra::SlotSizeLimitOp(SlotSizeLimitOp::Eq),
-            2 => ConstraintExtra::SlotSizeLimitOp(SlotSizeLimitOp::Gt),
-            3 => ConstraintExtra::SlotSizeLimitOp(SlotSizeLimitOp::Geq),
-            -1 => ConstraintExtra::SlotSizeLimitOp(SlotSizeLimitOp::Neq),
-            -2 => ConstraintExtra::SlotSizeLimitOp(SlotSizeLimitOp::Leq),
-            -3 => ConstraintExtra::SlotSizeLimitOp(SlotSizeLimitOp::Lt),
-            _ => ConstraintExtra::None,
-        }
-    }
-
     // The extra that a case and an operand stand for: none 0, offset 1, operator 2.
     pub fn of(case: u32, operand: i32) -> ConstraintExtra
         ensures { result ≡ extra_of case operand }
     {
         match case {
             1 => ConstraintExtra::Offset(operand),
-            2 => ConstraintExtra::operator(operand),
+            2 => match SlotSizeLimitOp::try_from(operand) {
+                Ok(op) => ConstraintExtra::SlotSizeLimitOp(op),
+                Err(_) => ConstraintExtra::None,
+            },
             _ => ConstraintExtra::None,
         }
     }
@@ -277,24 +265,8 @@ impl ConstraintExtra {
         match self {
             ConstraintExtra::None => 0,
             ConstraintExtra::Offset(n) => n,
-            ConstraintExtra::SlotSizeLimitOp(op) => op.number(),
+            ConstraintExtra::SlotSizeLimitOp(op) => i32::from(op),
         }
-    }
-}
-
-// A refused negation: the number, and zeros.
-fn refuse(number: u32) -> NegationAnswer
-    ensures { result ≡ negation_refused number }
-{
-    let none = Constraint {
-        kind: ConstraintType::Invalid,
-        left: 0,
-        right: ConstraintTarget::None,
-        extra: ConstraintExtra::None,
-    };
-    NegationAnswer {
-        number: number,
-        constraint: none,
     }
 }
 
@@ -308,10 +280,10 @@ impl Constraint {
         ensures { result ≡ constraint kind left right extra }
     {
         Constraint {
-            kind: kind,
-            left: left,
-            right: right,
-            extra: extra,
+            kind,
+            left,
+            right,
+            extra,
         }
     }
 
@@ -327,69 +299,45 @@ impl Constraint {
         ensures { result ≡ constraint_of kind left target_case target extra_case extra }
     {
         Constraint::new(
-            ConstraintType::of(kind),
+            ConstraintType::from(kind),
             left as usize,
             ConstraintTarget::of(target_case, target),
             ConstraintExtra::of(extra_case, extra),
         )
     }
 
-    // The constraint with its kind negated and another extra. Left and target are kept.
-    fn negated_with(self, extra: ConstraintExtra) -> NegationAnswer
-        ensures { result ≡ negated_with self extra }
+    // Every kind of the Rust has an answer; only a size limit without an operator is refused.
+    #[tactic(auto, unfolding(crate::specs::Negation::negation_of))]
+    pub fn negation(self) -> Result<Constraint, Refusal>
+        ensures { negation_answered result ≡ negation_of self }
     {
-        let kind = self.kind;
-        let right = self.right;
-        NegationAnswer {
-            number: 0,
-            constraint: Constraint::new(kind.negation(), self.left, right, extra),
+        let mut extra = self.extra;
+        if self.kind == ConstraintType::SlotHasLimitedSize {
+            extra = match extra {
+                ConstraintExtra::SlotSizeLimitOp(op) => {
+                    ConstraintExtra::SlotSizeLimitOp(op.negation())
+                }
+                _ => return Err(Refusal::Operands),
+            };
         }
-    }
-
-    // A size limit negates its operator. Without one there is nothing to negate.
-    fn size_limit_negation(self) -> NegationAnswer
-        ensures { result ≡ size_limit_negation self self.extra }
-    {
-        let extra = self.extra;
-        match extra {
-            ConstraintExtra::None => refuse(9),
-            ConstraintExtra::Offset(_) => refuse(9),
-            ConstraintExtra::SlotSizeLimitOp(op) => {
-                self.negated_with(ConstraintExtra::SlotSizeLimitOp(op.negation()))
-            }
-        }
-    }
-
-    // Every kind of the Rust has an answer; only a size limit without an operator is refused, by 9.
-    pub fn negation(self) -> NegationAnswer
-        ensures { result ≡ negation_of self }
-    {
-        let kind = self.kind;
-        let extra = self.extra;
-        if kind.number() == 6 {
-            return self.size_limit_negation();
-        }
-        self.negated_with(extra)
+        Ok(Constraint::new(self.kind.negation(), self.left, self.right, extra))
     }
 
     pub fn is_valid(self) -> bool
         ensures { result ≡ is_valid self.kind }
     {
-        let kind = self.kind;
-        kind.is_valid()
+        self.kind.is_valid()
     }
 
     pub fn is_scheduling_constraint(self) -> bool
         ensures { result ≡ is_scheduling self.kind }
     {
-        let kind = self.kind;
-        kind.is_scheduling_constraint()
+        self.kind.is_scheduling_constraint()
     }
 
     pub fn is_assignment_constraint(self) -> bool
         ensures { result ≡ is_assignment self.kind }
     {
-        let kind = self.kind;
-        kind.is_assignment_constraint()
+        self.kind.is_assignment_constraint()
     }
 }

@@ -1,5 +1,6 @@
 -- What every crate counts with: bounded indices, tests, searches, lent buffers, signed differences.
 pub mod Fold
+pub mod Calls
 pub mod FoldLaws
 pub mod Tests
 pub mod Sums

@@ -1,10 +1,10 @@
 -- Laws of joins and tables. Assumes nothing.
-use Prim.Native.Nat.{ℕ, zero, suc, ◌+◌, ◌*◌, ◌<◌, ◌≤◌, min, zero-le}
-use Rattle.std.specs.Prelude.{◌≡◌, Bool, true, false, List, [], ◌∷◌, ◌++◌, ltb, length, get_or, set, take, replicate}
+use Prim.Native.Nat.{ℕ, zero, suc, ◌+◌, ◌-◌, ◌*◌, ◌<◌, ◌≤◌, min, zero-le}
+use Rattle.std.specs.Prelude.{◌≡◌, Bool, true, false, List, [], ◌∷◌, ◌++◌, ltb, length, get_or, set, take, drop, replicate}
 use Rattle.std.proofs.Math.Path.{refl}
-use Rattle.std.proofs.Common.{sym, ap, ◌∙◌, le_of_eq, add-one, arith, length-set, lt-ltb, le-ltb, take_all, take-suc-set, ext_get_or, get_or-set_same, get_or-set_other}
+use Rattle.std.proofs.Common.{sym, ap, ◌∙◌, le_of_eq, add-one, arith, length-set, lt-ltb, le-ltb, take_all, take-suc-set, ext_get_or, length-take-le, length-drop, get_or-take, get_or-drop, get_or-set_same, get_or-set_other}
 use Rattle.std.proofs.Math.ListN.{length-append, get_or-append, get_or-eq_default}
-use Rattle.std.proofs.lemmas.List.{length-replicate, get_or-replicate, get_or_at}
+use Rattle.std.proofs.lemmas.List.{length-replicate, get_or-replicate, get_or-append_right, get_or_at}
 use Rattle.counting.specs.Fold.{fold_to, gate, sum_to, only_if, join_to, table_to}
 use Rattle.counting.specs.FoldLaws.{fold_none, fold_suc, fold_more}
 use Rattle.counting.specs.Sums.{sum_le, sum_const}
@@ -79,6 +79,17 @@ padded_more {f = f} {n = n} {i = i} {l = l} {x = x} h e p = record {
       (λ q t. rw (q, lt-ltb i (i + 1) (omega arith)) (get_or-set_same l i x 0 (omega (arith, p.long)) ∙ e))
       (λ q t. get_or-set_other l i k x 0 q ∙ p.at k ∙ ap (λ (b : Bool). gate b (f k)) (lt_cases k i (λ a u. u ∙ sym (lt-ltb k (i + 1) (omega arith))) (λ a u. u ∙ sym (le-ltb k (i + 1) (omega arith)))));
 }
+
+-- the first m of x, copied over an array of zeros
+pub padded_front : (x : List ℕ) (n m : ℕ) → m ≤ length x → m ≤ n → Padded (λ k. get_or x k 0) n m (take m x ++ drop m (replicate n 0))
+padded_front x n m h l =
+    let e : length (take m x) ≡ m = length-take-le m x h in
+    record {
+      long = length-append (take m x) (drop m (replicate n 0)) ∙ omega (arith, length-drop m (replicate {A = ℕ} n 0), length-replicate {A = ℕ} n 0);
+      at = λ k. lt_cases k m
+          (λ a t. rw t (get_or-append (take m x) (drop m (replicate n 0)) 0 k (omega arith) ∙ get_or-take m x k 0 a))
+          (λ a t. rw t (get_or-append_right (take m x) (drop m (replicate n 0)) m k 0 e a ∙ get_or-drop m (replicate n 0) (k - m) 0 ∙ zeros_at n _));
+    }
 
 -- all that are counted, and no more than there are
 pub padded_all : {f : ℕ → ℕ} {n i : ℕ} {l : List ℕ} (m : ℕ) → i ≡ min m n → Padded f n i l → l ≡ table_to n (λ k. gate (ltb k m) (f k))

@@ -36,14 +36,12 @@ fn put_dependent<'a>(
 {
     let mut to = at;
     let mut start = 0;
-    let mut g = 0;
-    while g < groups {
+    for g in 0..groups {
         let len = lengths[g] as usize;
         to = put_group(
             n, sizes, index, schedule, members, start, len, entries, ends, blocked, to,
         );
         start += len;
-        g += 1;
     }
     to
 }

@@ -26,12 +26,9 @@ fn put_list(
     requires { (n ≤ 2080) × (a < 64) × (b < 64) × Choices part.now × HasRoom entries ends blocked at (length part.now * 2) (length part.now) }
     ensures { Stores n entries ends blocked at (slot_names (number_at index.now) a b (length part.now) (entry_at part.now)) result }
 {
-    let len = part.len();
     let mut to = at;
-    let mut j = 0;
-    while j < len {
-        to = put_choice(n, index, a, b, part[j] as usize, entries, ends, blocked, to);
-        j += 1;
+    for k in part {
+        to = put_choice(n, index, a, b, *k as usize, entries, ends, blocked, to);
     }
     to
 }
@@ -77,14 +74,11 @@ fn put_same_choices(
     ensures { Stores n entries ends blocked at
         (same_choices_names (number_at index.now) sizes (entry_at lens.now) (listed sizes.stride lists.now) a b) result }
 {
-    let slots = sizes.slots;
     let mut to = at;
-    let mut s = 0;
-    while s < slots {
+    for s in 0..sizes.slots {
         to = put_slot(
             n, sizes, index, lists, lens, a, b, s, entries, ends, blocked, to,
         );
-        s += 1;
     }
     to
 }
@@ -106,15 +100,12 @@ fn put_constraint(
     ensures { Stores n entries ends blocked at
         (constraint_names (number_at index.now) sizes (entry_at lens.now) (listed sizes.stride lists.now) c) result }
 {
-    let kind = c.kind;
-    if kind.number() != 65539 {
+    if u32::from(c.kind) != 65539 {
         return at;
     }
-    let a = c.left;
-    let right = c.right;
-    let b = right.operand();
+    let b = c.right.operand();
     put_same_choices(
-        n, sizes, index, lists, lens, a, b, entries, ends, blocked, at,
+        n, sizes, index, lists, lens, c.left, b, entries, ends, blocked, at,
     )
 }
 
@@ -135,24 +126,20 @@ pub fn put_constraints(
     ensures { Stores n entries ends blocked at
         (constraints_names (number_at index.now) sizes (entry_at lens.now) (listed sizes.stride lists.now) list) result }
 {
-    let count = list.count;
     let mut to = at;
-    let mut j = 0;
-    while j < count {
-        let c = list.entries[j];
+    for j in 0..list.count {
         to = put_constraint(
             n,
             sizes,
             index,
             lists,
             lens,
-            c.constraint(),
+            Constraint::from(list.entries[j]),
             entries,
             ends,
             blocked,
             to,
         );
-        j += 1;
     }
     to
 }

@@ -1,12 +1,12 @@
 // Checks 3 to 10 of a day, and the order of all.
 #![tactic(auto)]
 
-ghost use Rattle.std.specs.Prelude.{◌≡◌, leb};
+ghost use Rattle.std.specs.Prelude.{◌≡◌};
 ghost use Rattle.input_data.specs.Bytes.{IsDay, day_of};
-ghost use Rattle.input_data.specs.Checks.{bad_choice, bad_choices, member_count, bad_members, bad_groups, late_number, day_number};
+ghost use Rattle.input_data.specs.Checks.{bad_choices, member_count, bad_members, bad_groups, late_number, day_number};
 
 use constraints::{bad_assignment, bad_kinds, bad_scheduling};
-use counting::at_most;
+use counting::any_of;
 use input_data::{
     Beside, Limits, assignment_count, choices, choosers, first, groups, length_at, max_at,
     max_preference, member_at, min_at, scheduling_count, slots, too_many, word,
@@ -17,60 +17,35 @@ mod tables;
 
 pub use tables::{bad_costs, bad_levels, bad_preferences};
 
-fn bad_choice(min: u32, max: u32) -> bool
-    ensures { result ≡ bad_choice min max }
-{
-    (max < min) | (1000 < max)
-}
-
 // 3.
 fn bad_choices(n: usize, day: &[u8]) -> bool
     requires { IsDay day.now }
     ensures { result ≡ bad_choices n (day_of day.now).mins (day_of day.now).maxs }
 {
-    let most = at_most(32, n);
-    let mut bad = false;
-    let mut i = 0;
-    while i < most {
-        bad = bad | bad_choice(min_at(day, i), max_at(day, i));
-        i += 1;
-    }
-    bad
+    any_of::<32, _>(
+        n,
+        |i| (max_at(day, i) < min_at(day, i)) | (1000 < max_at(day, i)),
+    )
 }
 
 // The members of all groups together. The sum of 16 lengths of 32 bits fits.
+#[tactic(auto, using(counting::specs::FoldLaws::fold_more, counting::specs::FoldLaws::fold_none))]
 fn member_count(n: usize, day: &[u8]) -> u64
     requires { IsDay day.now }
     ensures { result ≡ member_count n (day_of day.now).lengths }
 {
-    let most = at_most(16, n);
-    let mut sum: u64 = 0;
-    let mut i = 0;
-    while i < most {
+    let mut sum = 0;
+    for i in 0..n.min(16) {
         sum += length_at(day, i) as u64;
-        i += 1;
     }
     sum
-}
-
-fn bad_member(choices: usize, member: u32) -> bool
-    ensures { result ≡ leb choices member }
-{
-    choices <= member as usize
 }
 
 fn bad_members(choices: usize, count: u64, day: &[u8]) -> bool
     requires { IsDay day.now }
     ensures { result ≡ bad_members choices count (day_of day.now).members }
 {
-    let most = at_most(32, count as usize);
-    let mut bad = false;
-    let mut i = 0;
-    while i < most {
-        bad = bad | bad_member(choices, member_at(day, i));
-        i += 1;
-    }
-    (32 < count) | bad
+    (32 < count) | any_of::<32, _>(count as usize, |i| choices <= member_at(day, i) as usize)
 }
 
 // 10.
@@ -82,6 +57,7 @@ fn bad_groups(choices: usize, n: usize, day: &[u8]) -> bool
 }
 
 // The first of checks 7 to 10 that applies, or `rest`.
+#[tactic(auto, using(input_data::specs::BytesLaws::choosers_of, input_data::specs::BytesLaws::choices_of_lem, input_data::specs::BytesLaws::slots_of, input_data::specs::BytesLaws::scheduling_list_of, input_data::specs::BytesLaws::assignment_list_of, input_data::specs::ByNumber::eight_nine), unfolding(input_data::specs::Checks::late_number))]
 fn late_number(day: &[u8], asked: bool, rest: u32) -> u32
     requires { IsDay day.now }
     ensures { result ≡ late_number (day_of day.now) asked rest }
@@ -98,6 +74,7 @@ fn late_number(day: &[u8], asked: bool, rest: u32) -> u32
 }
 
 // The first number that applies, with what a call tests beside the day, and `rest` after 10.
+#[tactic(auto, unfolding(input_data::specs::Checks::day_number))]
 pub fn day_number(limits: Limits, day: &[u8], beside: Beside, rest: u32) -> u32
     requires { IsDay day.now }
     ensures { result ≡ day_number limits (day_of day.now) beside rest }

@@ -12,25 +12,14 @@ ghost use Rattle.decoding.specs.Decoding.{decoded_row, Finds, Decoding};
 
 use input_data::Sizes;
 
-// Whether an edge is one of the first n and has the value 1.
-fn is_one(n: usize, values: &[i32], edge: u16) -> bool
-    requires { n ≤ length values.now }
-    ensures { result ≡ is_one n values.now edge }
-{
-    let e = edge as usize;
-    if e < n {
-        return counting::same(values[e], 1);
-    }
-    false
-}
-
-// Whether the chooser's edge to the choice has 1.
+// Whether the chooser's edge to the choice is one of the first n and has the value 1.
+#[tactic(auto, unfolding(counting::specs::Ints::eq_z))]
 fn has_one(n: usize, index: &[u16; 2048], values: &[i32], chooser: usize, choice: u8) -> bool
     requires { (n ≤ length values.now) × (chooser < 64) × (choice < 32) }
     ensures { result ≡ is_one n values.now (number_at index.now chooser choice) }
 {
-    let cell = 32 * chooser + choice as usize;
-    is_one(n, values, index[cell])
+    let e = index[32 * chooser + choice as usize] as usize;
+    e < n && values[e] == 1
 }
 
 // The first of the listed choices to which the chooser's edge has 1. There is one.
@@ -38,11 +27,13 @@ fn choice_of(n: usize, index: &[u16; 2048], part: &[u8], values: &[i32], chooser
     requires { Finds n index.now part.now values.now chooser }
     ensures { result ≡ entry_at part.now (first_to (length part.now) (has_one n values.now (number_at index.now) (entry_at part.now) chooser)) }
 {
-    let mut j = 0;
-    while !has_one(n, index, values, chooser, part[j]) {
-        j += 1;
+    for k in part {
+        if has_one(n, index, values, chooser, *k) {
+            return *k;
+        }
     }
-    part[j]
+    // not reached
+    0
 }
 
 // What the chooser has in the slot.
@@ -79,10 +70,8 @@ fn put_row(
     ensures { plan.new ≡ written plan.old (chooser * sizes.slots) (decoded_row n sizes index.now lists.now lens.now values.now chooser) }
 {
     let at = chooser * sizes.slots;
-    let mut s = 0;
-    while s < sizes.slots {
+    for s in 0..sizes.slots {
         plan[at + s] = choice_in(n, sizes, index, lists, lens, values, chooser, s);
-        s += 1;
     }
 }
 
@@ -100,9 +89,7 @@ pub fn decode(
     ensures { plan.new ≡ written plan.old 0
         (decoded n values.now (number_at index.now) (entry_at lens.now) (listed sizes.stride lists.now) sizes) }
 {
-    let mut c = 0;
-    while c < sizes.choosers {
+    for c in 0..sizes.choosers {
         put_row(n, sizes, index, lists, lens, values, plan, c);
-        c += 1;
     }
 }

@@ -39,14 +39,9 @@ fn all_there(
     requires { (c < 64) × Members start len members.now }
     ensures { result ≡ all_there n (chooser_names (number_at index.now) schedule.now members.now start len c) }
 {
-    let mut all = true;
-    let mut i = 0;
-    while i < len {
-        let k = members[start + i] as usize;
-        all = all & is_there(n, index, schedule, c, k);
-        i += 1;
-    }
-    all
+    counting::all_below(len, |i| {
+        is_there(n, index, schedule, c, members[start + i] as usize)
+    })
 }
 
 // Stores the edge of chooser c to choice k if k has a slot and the edge is there.
@@ -84,11 +79,9 @@ fn put_present(
     ensures { Put storing out.old at (present n (chooser_names (number_at index.now) schedule.now members.now start len c)) out.new result }
 {
     let mut to = at;
-    let mut i = 0;
-    while i < len {
+    for i in 0..len {
         let k = members[start + i] as usize;
         to = put_member(n, index, schedule, c, k, out, to);
-        i += 1;
     }
     to
 }
@@ -110,22 +103,22 @@ fn put_chooser(
     requires { (n ≤ 2080) × (c < 64) × Members start len members.now × HasRoom entries ends blocked at len 1 }
     ensures { Stores n entries ends blocked at (chooser_names_at (number_at index.now) schedule.now members.now start len c) result }
 {
-    let m = at.entries;
-    let g = at.groups;
-    let b = at.blocked;
     if all_there(n, index, schedule, members, start, len, c) {
-        let end = put_present(n, index, schedule, members, start, len, c, entries, m);
-        ends[g] = end as u16;
+        let end = put_present(
+            n, index, schedule, members, start, len, c, entries, at.entries,
+        );
+        ends[at.groups] = end as u16;
         return Marks {
             entries: end,
-            groups: g + 1,
-            blocked: b,
+            groups: at.groups + 1,
+            ..at
         };
     }
     Marks {
-        entries: m,
-        groups: g,
-        blocked: put_present(n, index, schedule, members, start, len, c, blocked, b),
+        blocked: put_present(
+            n, index, schedule, members, start, len, c, blocked, at.blocked,
+        ),
+        ..at
     }
 }
 
@@ -147,12 +140,10 @@ fn put_choosers(
     ensures { Stores n entries ends blocked at (join_to choosers (chooser_names_at (number_at index.now) schedule.now members.now start len)) result }
 {
     let mut to = at;
-    let mut c = 0;
-    while c < choosers {
+    for c in 0..choosers {
         to = put_chooser(
             n, index, schedule, members, start, len, c, entries, ends, blocked, to,
         );
-        c += 1;
     }
     to
 }

@@ -1,12 +1,12 @@
 -- Laws of stored lists of named edges: one after the other, and one list edge by edge. Assumes nothing.
-use Rattle.std.specs.Prelude.{ℕ, suc, ◌+◌, ◌<◌, ◌≤◌, ◌≡◌, Bool, true, false, ◌&&◌, ltb, set}
+use Rattle.std.specs.Prelude.{ℕ, zero, suc, ◌+◌, ◌<◌, ◌≤◌, ◌≡◌, Bool, true, false, ◌&&◌, ltb, set}
 use Rattle.std.proofs.Common.{add-zero, add_assoc, arith, subst, ◌∙◌, length-append, lt-ltb, le-ltb}
 use Rattle.std.proofs.Math.Path.{refl, sym, ap}
 use Rattle.std.proofs.Math.Bool.{and-true}
 use mathlib.Core.List.{List, [], ◌∷◌, ◌++◌, append_assoc, append-nil}
 use Rattle.std.proofs.Math.ListN.{length}
-use Rattle.counting.specs.Fold.{only_if, join_to}
-use Rattle.counting.specs.FoldLaws.{fold_none, fold_more, fold_at}
+use Rattle.counting.specs.Fold.{only_if, all_to, join_to}
+use Rattle.counting.specs.FoldLaws.{fold_none, fold_suc, fold_more, fold_at}
 use Rattle.counting.specs.Lists.{only_length}
 use Rattle.counting.specs.Tests.{never}
 use Rattle.counting.specs.Written.{written}
@@ -128,6 +128,11 @@ module _ (n : ℕ) (f : ℕ → List ℕ) where
 
   pub there_all : {i m : ℕ} → i ≡ m → all_there n (join_to i f) ≡ all_there n (join_to m f)
   there_all e = ap (λ k. all_there n (join_to k f)) e
+
+  -- each number's edges are there: all are
+  pub there_each : (m : ℕ) → all_to m (λ i. all_there n (f i)) ≡ all_there n (join_to m f)
+  there_each zero = fold_none ◌&&◌ true (λ i. all_there n (f i)) ∙ there_start
+  there_each (suc m) = rw (fold_suc ◌&&◌ true m (λ i. all_there n (f i)), there_each m, fold_suc ◌++◌ [] m f, there_append)
 
   pub present_start : present n (join_to 0 f) ≡ []
   unfolding each

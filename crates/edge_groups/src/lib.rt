@@ -17,18 +17,12 @@ pub struct Marks {
     pub blocked: usize,
 }
 
-fn widened(number: u16) -> usize
-    ensures { result ≡ number }
-{
-    number as usize
-}
-
 // The number of the edge of chooser c to choice k.
 pub fn edge_number(index: &[u16; 2048], c: usize, k: usize) -> usize
     requires { (c < 64) × (k < 32) }
     ensures { result ≡ number_at index.now c k }
 {
-    widened(index[32 * c + k])
+    index[32 * c + k] as usize
 }
 
 // Stores an edge if it is there.
@@ -65,22 +59,18 @@ fn put_pair(
     requires { (n ≤ 2080) × HasRoom entries ends blocked at 2 1 }
     ensures { Stores n entries ends blocked at ((x ∷ y ∷ []) ∷ []) result }
 {
-    let m = at.entries;
-    let g = at.groups;
-    let b = at.blocked;
     if (x < n) & (y < n) {
-        let end = put_two(n, x, y, entries, m);
-        ends[g] = end as u16;
+        let end = put_two(n, x, y, entries, at.entries);
+        ends[at.groups] = end as u16;
         return Marks {
             entries: end,
-            groups: g + 1,
-            blocked: b,
+            groups: at.groups + 1,
+            ..at
         };
     }
     Marks {
-        entries: m,
-        groups: g,
-        blocked: put_two(n, x, y, blocked, b),
+        blocked: put_two(n, x, y, blocked, at.blocked),
+        ..at
     }
 }
 

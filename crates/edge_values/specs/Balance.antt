@@ -33,7 +33,7 @@ pub record Flows (edges : ℕ) (ends : List ℕ) (vs : List ℤ) (sums : List �
   pub long : length sums ≡ 552
   pub at : (v : ℕ) → v < 552 → Flowed edges ends vs v (get_or sums v 0)
 
--- what the walk over the edges asks ..
+-- what the walk over the edges asks
 pub record Walking (edges : ℕ) (from to : List ℕ) (values : List ℤ) (outs ins : List ℕ) : Type 0 where
   pub few : edges ≤ 2080
   pub from_long : edges ≤ length from
@@ -45,13 +45,6 @@ pub record Walking (edges : ℕ) (from to : List ℕ) (values : List ℤ) (outs 
   pub light : (e : ℕ) → e < edges → mag (value_at values e) ≤ 1000
   pub outs_none : outs ≡ replicate 552 0
   pub ins_none : ins ≡ replicate 552 0
-
--- .. and that over the nodes
-pub record Weighing (nodes : ℕ) (outs ins : List ℕ) (size : ℕ) : Type 0 where
-  pub few : nodes ≤ 552
-  pub supplies_long : nodes ≤ size
-  pub outs_small : (v : ℕ) → v < nodes → get_or outs v 0 < 2147483648
-  pub ins_small : (v : ℕ) → v < nodes → get_or ins v 0 < 2147483648
 
 -- a node, by its two sums
 abbrev pub unbalanced_by : List ℕ → List ℕ → List ℤ → ℕ → Bool

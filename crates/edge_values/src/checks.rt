@@ -1,35 +1,15 @@
 // Checks 14 to 16. No walk over a table ends early, so that it is quick.
-ghost use Rattle.std.specs.Prelude.{◌≡◌, ◌≤◌, not, length};
+ghost use Rattle.std.specs.Prelude.{◌≡◌, length};
 ghost use Rattle.counting.specs.Fold.{any_to};
-ghost use Rattle.counting.specs.Ints.{eq_z};
-ghost use Rattle.edge_values.specs.Values.{out_of_bounds, some_outside, some_used, is_uneven};
+ghost use Rattle.edge_values.specs.Values.{some_outside, some_used, is_uneven};
 ghost use Rattle.edge_values.specs.Checks.{Bounded, Naming, uneven_part, Grouped};
-
-fn is_outside(value: i32, max: u32) -> bool
-    requires { max ≤ 1000 }
-    ensures { result ≡ out_of_bounds value max }
-{
-    (value < 0) | ((max as i32) < value)
-}
 
 // 14. An edge value lies outside 0 to the edge's max.
 pub fn some_outside(edges: usize, maxs: &[u32], values: &[i32]) -> bool
     requires { Bounded edges maxs.now (length values.now) }
     ensures { result ≡ some_outside edges maxs.now values.now }
 {
-    let mut bad = false;
-    let mut e = 0;
-    while e < edges {
-        bad = bad | is_outside(values[e], maxs[e]);
-        e += 1;
-    }
-    bad
-}
-
-fn differs(a: i32, b: i32) -> bool
-    ensures { result ≡ not (eq_z a b) }
-{
-    !counting::same(a, b)
+    counting::any_below(edges, |e| (values[e] < 0) | (values[e] > maxs[e] as i32))
 }
 
 // 15. A blocked edge has a value other than 0.
@@ -37,14 +17,7 @@ pub fn some_used(n: usize, blocked: &[u16], values: &[i32]) -> bool
     requires { Naming n blocked.now (length values.now) }
     ensures { result ≡ some_used n blocked.now values.now }
 {
-    let mut bad = false;
-    let mut i = 0;
-    while i < n {
-        let e = blocked[i] as usize;
-        bad = bad | differs(values[e], 0);
-        i += 1;
-    }
-    bad
+    counting::any_below(n, |i| values[blocked[i] as usize] != 0)
 }
 
 // Two edges of a group differ: one differs from the first.
@@ -52,19 +25,11 @@ fn is_uneven(group: &[u16], values: &[i32]) -> bool
     requires { Naming (length group.now) group.now (length values.now) }
     ensures { result ≡ is_uneven values.now group.now }
 {
-    if group.len() == 0 {
+    if group.is_empty() {
         return false;
     }
-    let f = group[0] as usize;
-    let first = values[f];
-    let mut bad = false;
-    let mut i = 0;
-    while i < group.len() {
-        let e = group[i] as usize;
-        bad = bad | differs(values[e], first);
-        i += 1;
-    }
-    bad
+    let first = values[group[0] as usize];
+    counting::any_below(group.len(), |i| values[group[i] as usize] != first)
 }
 
 // 16. Two edges of one group differ. Each group begins where the one before it ends.
@@ -73,13 +38,11 @@ pub fn some_uneven(groups: usize, entries: &[u16], ends: &[u16], values: &[i32])
     ensures { result ≡ any_to groups (uneven_part values.now entries.now ends.now) }
 {
     let mut bad = false;
-    let mut start: usize = 0;
-    let mut g = 0;
-    while g < groups {
+    let mut start = 0;
+    for g in 0..groups {
         let stop = ends[g] as usize;
-        bad = bad | is_uneven(&entries[start..stop], values);
+        bad |= is_uneven(&entries[start..stop], values);
         start = stop;
-        g += 1;
     }
     bad
 }

@@ -24,14 +24,13 @@ pub fn values_number(
     requires { Readable (node_count sizes) counts supplies from to max entries ends blocked values }
     ensures { result ≡ number_read (node_count sizes) counts supplies from to max entries ends blocked values }
 {
-    let edges = counts.edges;
-    if some_outside(edges, max, values) {
+    if some_outside(counts.edges, max, values) {
         return 14;
     }
     let nodes = sizes.choosers * sizes.slots + sizes.choices + sizes.slots;
     let used = some_used(counts.blocked, blocked, values);
     let uneven = some_uneven(counts.groups, entries, ends, values);
-    let unbalanced = some_unbalanced(nodes, edges, from, to, supplies, values);
+    let unbalanced = some_unbalanced(nodes, counts.edges, from, to, supplies, values);
     let from16 = input_data::first(uneven, 16, input_data::first(unbalanced, 17, 0));
     input_data::first(used, 15, from16)
 }

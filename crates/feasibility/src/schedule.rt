@@ -1,5 +1,5 @@
 // Scheduling::is_feasible of a schedule that was accepted.
-ghost use Rattle.std.specs.Prelude.{◌≡◌, ◌&&◌, ◌≤◌, leb};
+ghost use Rattle.std.specs.Prelude.{◌≡◌, ◌≤◌};
 ghost use Rattle.counting.specs.Fold.{all_to};
 ghost use Rattle.input_data.specs.Bytes.{IsDay, day_of};
 ghost use Rattle.feasibility.specs.Feasible.{is_placed, schedule_feasible};
@@ -11,19 +11,9 @@ fn all_placed(choices: usize, entries: &[u8; 32], day: &[u8]) -> bool
     requires { IsDay day.now × (choices ≤ 32) }
     ensures { result ≡ all_to choices (is_placed (day_of day.now) entries.now) }
 {
-    let mut placed = true;
-    let mut k = 0;
-    while k < choices {
-        placed = placed & ((entries[k] != 0) | input_data::optional_at(day, k));
-        k += 1;
-    }
-    placed
-}
-
-fn seats_all(choosers: usize, min: u32, max: u32) -> bool
-    ensures { result ≡ (leb min choosers && leb choosers max) }
-{
-    ((min as usize) <= choosers) & (choosers <= max as usize)
+    counting::all_below(choices, |k| {
+        (entries[k] != 0) | input_data::optional_at(day, k)
+    })
 }
 
 // Whether the choosers are from the sum of min to the sum of max in every slot.
@@ -31,13 +21,9 @@ fn all_seated<'a>(choosers: usize, slots: usize, mins: &'a [u32; 8], maxs: &'a [
     requires { slots ≤ 8 }
     ensures { result ≡ sums_seat choosers slots mins.now maxs.now }
 {
-    let mut seated = true;
-    let mut s = 0;
-    while s < slots {
-        seated = seated & seats_all(choosers, mins[s], maxs[s]);
-        s += 1;
-    }
-    seated
+    counting::all_below(slots, |s| {
+        (mins[s] as usize <= choosers) & (choosers <= maxs[s] as usize)
+    })
 }
 
 // The sums of min and of max of each slot, in one walk over the choices.
@@ -45,11 +31,9 @@ fn add_sizes(mins: &mut [u32; 8], maxs: &mut [u32; 8], day: &[u8], entries: &[u8
     requires { IsDay day.now × Unweighed mins.old maxs.old × Weighable (day_of day.now) entries.now n }
     ensures { SizeSums (day_of day.now) entries.now n mins.new maxs.new }
 {
-    let mut i = 0;
-    while i < n {
+    for i in 0..n {
         slot_lists::add(mins, entries[i], input_data::min_at(day, i));
         slot_lists::add(maxs, entries[i], input_data::max_at(day, i));
-        i += 1;
     }
 }
 

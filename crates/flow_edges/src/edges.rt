@@ -1,38 +1,34 @@
 // add_keyed_edge of mip_flow.rs: one edge, that of a seat or that of a scheduled choice, is stored.
-ghost use Rattle.std.specs.Prelude.{◌<◌};
+ghost use Rattle.std.specs.Prelude.{◌≡◌, ◌+◌, ◌<◌, set};
 ghost use Rattle.mip_flow.specs.Edges.{seat_at, place_at};
 ghost use Rattle.mip_flow.specs.Lent.{lent_offer, OfferLent, HasRoom, StoresSeats, StoresChoices};
-ghost use Rattle.mip_flow.specs.Stored.{with_index, tables, choices_of, OneSeat, OneChoice, Placed};
+ghost use Rattle.mip_flow.specs.Stored.{tables, choices_of, Placed};
 
 use input_data::Sizes;
 
-// Stores a seat's edge as number n, and its number at its place in the index.
-fn put_seat_edge(
+// Stores an edge as number n.
+fn put_edge(
     from: &mut [u16],
     to: &mut [u16],
     max: &mut [u32],
     cost: &mut [i64],
-    index: &mut [u16; 2048],
     n: usize,
     f: usize,
     t: usize,
+    m: u32,
     c: i64,
-    p: usize,
-) -> usize
-    requires { HasRoom from to max cost n 1 × (f < 552) × (t < 552) × (p < 2048) }
-    ensures { OneSeat (with_index from.old to.old max.old cost.old index.old) n f t c p
-        (with_index from.new to.new max.new cost.new index.new) result }
+)
+    requires { HasRoom from to max cost n 1 × (f < 552) × (t < 552) }
+    ensures { tables from.new to.new max.new cost.new ≡ tables (set from.old n f) (set to.old n t) (set max.old n m) (set cost.old n c) }
 {
     from[n] = f as u16;
     to[n] = t as u16;
-    max[n] = 1;
+    max[n] = m;
     cost[n] = c;
-    index[p] = n as u16;
-    n + 1
 }
 
-// Stores the edge of chooser c in slot s to choice k, if the preference is at most the limit and no
-// block applies.
+// Stores the edge of chooser c in slot s to choice k, and its number at its place in the index, if the
+// preference is at most the limit and no block applies.
 pub fn put_seat(
     sizes: Sizes,
     limit: u32,
@@ -62,31 +58,12 @@ pub fn put_seat(
     let f = c * sizes.slots + s;
     let t = sizes.choosers * sizes.slots + k;
     let price = mip_flow::edge_cost(costs, preference);
-    put_seat_edge(from, to, max, cost, index, n, f, t, price, 32 * c + k)
-}
-
-// Stores a choice's edge as number n. It costs nothing.
-fn put_choice_edge(
-    from: &mut [u16],
-    to: &mut [u16],
-    max: &mut [u32],
-    cost: &mut [i64],
-    n: usize,
-    f: usize,
-    t: usize,
-    m: u32,
-) -> usize
-    requires { HasRoom from to max cost n 1 × (f < 552) × (t < 552) }
-    ensures { OneChoice (tables from.old to.old max.old cost.old) n f t m (tables from.new to.new max.new cost.new) result }
-{
-    from[n] = f as u16;
-    to[n] = t as u16;
-    max[n] = m;
-    cost[n] = 0;
+    put_edge(from, to, max, cost, n, f, t, 1, price);
+    index[32 * c + k] = n as u16;
     n + 1
 }
 
-// Stores the edge of choice k to its slot, if it has one.
+// Stores the edge of choice k to its slot, if it has one. It costs nothing.
 pub fn put_choice<'a>(
     sizes: Sizes,
     entries: &'a [u8; 32],
@@ -110,5 +87,6 @@ pub fn put_choice<'a>(
     let f = sizes.choosers * sizes.slots + k;
     let t = mip_flow::slot_node(sizes, entry - 1);
     let m = mip_flow::choice_width(mins[k], maxs[k]);
-    put_choice_edge(from, to, max, cost, n, f, t, m)
+    put_edge(from, to, max, cost, n, f, t, m, 0);
+    n + 1
 }

@@ -38,10 +38,8 @@ fn put_slot_seats(
         (slot_seats (lent_offer sizes limit preferences blocks costs) c s (length part.now) (entry_at part.now))
         from to max cost index result }
 {
-    let len = part.len();
     let mut at = n;
-    let mut j = 0;
-    while j < len {
+    for k in part {
         at = put_seat(
             sizes,
             limit,
@@ -50,7 +48,7 @@ fn put_slot_seats(
             costs,
             c,
             s,
-            part[j] as usize,
+            *k as usize,
             from,
             to,
             max,
@@ -58,7 +56,6 @@ fn put_slot_seats(
             index,
             at,
         );
-        j += 1;
     }
     at
 }
@@ -130,10 +127,8 @@ fn put_chooser_seats(
         (chooser_seats (lent_offer sizes limit preferences blocks costs) (entry_at lens.now) (listed sizes.stride lists.now) c)
         from to max cost index result }
 {
-    let slots = sizes.slots;
     let mut at = n;
-    let mut s = 0;
-    while s < slots {
+    for s in 0..sizes.slots {
         at = put_listed_seats(
             sizes,
             limit,
@@ -151,7 +146,6 @@ fn put_chooser_seats(
             index,
             at,
         );
-        s += 1;
     }
     at
 }
@@ -177,10 +171,8 @@ pub fn put_seats(
         (open_seats (lent_offer sizes limit preferences blocks costs) (entry_at lens.now) (listed sizes.stride lists.now))
         from to max cost index result }
 {
-    let choosers = sizes.choosers;
     let mut at = 0;
-    let mut c = 0;
-    while c < choosers {
+    for c in 0..sizes.choosers {
         at = put_chooser_seats(
             sizes,
             limit,
@@ -197,7 +189,6 @@ pub fn put_seats(
             index,
             at,
         );
-        c += 1;
     }
     at
 }
@@ -217,12 +208,9 @@ pub fn put_choices<'a>(
     requires { Placed (choices_of sizes entries.now mins.now maxs.now) × HasRoom from to max cost n sizes.choices }
     ensures { StoresChoices (choices_of sizes entries.now mins.now maxs.now) n (scheduled sizes.choices entries.now) from to max cost result }
 {
-    let choices = sizes.choices;
     let mut at = n;
-    let mut k = 0;
-    while k < choices {
+    for k in 0..sizes.choices {
         at = put_choice(sizes, entries, mins, maxs, k, from, to, max, cost, at);
-        k += 1;
     }
     at
 }

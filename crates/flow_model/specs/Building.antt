@@ -38,12 +38,12 @@ use Rattle.edge_groups.specs.Grouping.{Grouping}
 use Rattle.edge_groups.specs.Names.{names, member_start}
 use Rattle.edge_groups.specs.Groups.{flat, ends_from, stored, marks_after, marks, PutGroups, GroupBuffers, group_buffers}
 use Rattle.edge_groups.specs.declared.Marks.{Marks}
-use Rattle.plans.specs.Good.{Good, model_accepted}
+use Rattle.plans.specs.Good.{Good, model_accepted, good}
 use Rattle.plans.specs.SeatPairs.{maps_length}
 use Rattle.plans.specs.Seated.{left_chooser, right_chooser}
 use Rattle.plans.specs.Model.{ModelInput, sizes_of, entries_of, count_of, list_of, offer_of, seats_of, choices_of, names_of, network_of, costs_of, wrong_model_tables, number_with}
 use Rattle.flow_model.specs.Alike.{Reading, names_same}
-use Rattle.flow_model.specs.Lent.{with_model, ModelMade}
+use Rattle.flow_model.specs.Lent.{with_model, Buildable, ModelMade}
 
 -- ---- lengths that were tested
 
@@ -102,6 +102,14 @@ module _ (l : Limits) (x : ModelInput) (lens : Lengths) (short : Bool) (w : With
         rest = p.1;
         below = λ i h. ltb-false _ _ (none_each (length x.preferences) (above_at x.day.max_preference x.preferences) a.past.preferences i h);
       }
+
+-- tested input is accepted, and the buffers are as long as its model asks
+module _ {l : Limits} {x : ModelInput} {lens : Lengths} (p : Buildable l x lens) where
+  pub good_of : Good l x
+  good_of = good l x lens p.short p.within p.number
+
+  pub lent_of : Lent l x lens p.short
+  lent_of = lent l x lens p.short p.within p.number
 
 -- ---- the slots' lists
 

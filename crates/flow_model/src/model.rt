@@ -79,9 +79,9 @@ fn put_model(
         blocked,
     );
     Counts {
-        lens: lens,
-        seats: seats,
-        edges: edges,
+        lens,
+        seats,
+        edges,
         entries: marks.entries,
         groups: marks.groups,
         blocked: marks.blocked,
@@ -144,7 +144,7 @@ pub fn enter(
             blocked: 0,
         };
         return Entered {
-            number: number,
+            number,
             counts: none,
         };
     }
@@ -166,8 +166,5 @@ pub fn enter(
         blocked,
         index,
     );
-    Entered {
-        number: 0,
-        counts: counts,
-    }
+    Entered { number: 0, counts }
 }

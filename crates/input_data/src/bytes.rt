@@ -1,22 +1,18 @@
 // The day lent as bytes: reads at fixed places, each equal to a field of the InputData that they stand for.
-ghost use Rattle.std.specs.Prelude.{◌≡◌, ◌+◌, ◌*◌, ◌<◌, ◌≤◌, length, get_or};
+#![tactic(auto, unfolding(crate::specs::Bytes::day_of, crate::specs::Bytes::list_in, crate::specs::Bytes::word_at))]
+
+ghost use Rattle.std.specs.Prelude.{◌≡◌, ◌+◌, ◌<◌, ◌≤◌, length, get_or};
 ghost use Rattle.input_data.specs.Day.{min_at, max_at, optional_at};
 ghost use Rattle.input_data.specs.Bytes.{IsDay, word_at, signed_of, flag_at, numbers_in, day_of};
 
 use crate::ConstraintNumbers;
-
-fn wide(x: u8) -> u32
-    ensures { (result ≡ x) × (result < 256) }
-{
-    x as u32
-}
 
 // Four bytes, the least first.
 pub fn word(b: &[u8], at: usize) -> u32
     requires { at + 4 ≤ length b.now }
     ensures { result ≡ word_at b.now at }
 {
-    wide(b[at]) + 256 * wide(b[at + 1]) + 65536 * wide(b[at + 2]) + 16777216 * wide(b[at + 3])
+    u32::from_le_bytes([b[at], b[at + 1], b[at + 2], b[at + 3]])
 }
 
 // A flag byte is yes where it is not 0.
@@ -31,10 +27,7 @@ pub fn flag(b: &[u8], at: usize) -> bool
 pub fn signed(x: u32) -> i32
     ensures { result ≡ signed_of x }
 {
-    if x < 2147483648 {
-        return x as i32;
-    }
-    -((4294967295 - x) as i32) - 1
+    x.cast_signed()
 }
 
 pub fn choosers(day: &[u8]) -> usize
@@ -86,6 +79,7 @@ pub fn groups(day: &[u8]) -> usize
     word(day, 24) as usize
 }
 
+#[tactic(auto, using(crate::specs::BytesLaws::min_of))]
 pub fn min_at(day: &[u8], k: usize) -> u32
     requires { IsDay day.now × (k < 32) }
     ensures { result ≡ min_at (day_of day.now) k }
@@ -93,6 +87,7 @@ pub fn min_at(day: &[u8], k: usize) -> u32
     word(day, 28 + 4 * k)
 }
 
+#[tactic(auto, using(crate::specs::BytesLaws::max_of))]
 pub fn max_at(day: &[u8], k: usize) -> u32
     requires { IsDay day.now × (k < 32) }
     ensures { result ≡ max_at (day_of day.now) k }
@@ -100,6 +95,7 @@ pub fn max_at(day: &[u8], k: usize) -> u32
     word(day, 156 + 4 * k)
 }
 
+#[tactic(auto, using(crate::specs::BytesLaws::optional_of))]
 pub fn optional_at(day: &[u8], k: usize) -> bool
     requires { IsDay day.now × (k < 32) }
     ensures { result ≡ optional_at (day_of day.now) k }
@@ -107,6 +103,7 @@ pub fn optional_at(day: &[u8], k: usize) -> bool
     flag(day, 284 + k)
 }
 
+#[tactic(auto, using(crate::specs::BytesLaws::length_of))]
 pub fn length_at(day: &[u8], g: usize) -> u32
     requires { IsDay day.now × (g < 16) }
     ensures { (result ≡ get_or (day_of day.now).lengths g 0) × (result < 4294967296) }
@@ -114,6 +111,7 @@ pub fn length_at(day: &[u8], g: usize) -> u32
     word(day, 316 + 4 * g)
 }
 
+#[tactic(auto, using(crate::specs::BytesLaws::member_of_lem))]
 pub fn member_at(day: &[u8], i: usize) -> u32
     requires { IsDay day.now × (i < 32) }
     ensures { result ≡ get_or (day_of day.now).members i 0 }
@@ -122,6 +120,7 @@ pub fn member_at(day: &[u8], i: usize) -> u32
 }
 
 // The numbers of a constraint of the list whose entries begin at `at`.
+#[tactic(auto, using(counting::specs::Signed::back), unfolding(crate::specs::Bytes::numbers_in))]
 pub fn numbers_at(day: &[u8], at: usize, j: usize) -> ConstraintNumbers
     requires { (at + 768 ≤ length day.now) × (j < 32) }
     ensures { result ≡ numbers_in day.now at j }

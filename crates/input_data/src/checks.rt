@@ -15,13 +15,11 @@ pub struct Beside {
 }
 
 // The number of a check that applies, or else what is left to check.
+#[tactic(auto, unfolding(crate::specs::Checks::first_of))]
 pub fn first(applies: bool, number: u32, rest: u32) -> u32
     ensures { result ≡ first_of applies number rest }
 {
-    if applies {
-        return number;
-    }
-    rest
+    if applies { number } else { rest }
 }
 
 // 1.

@@ -5,18 +5,18 @@ ghost use Rattle.input_data.specs.Day.{constraint_of_numbers};
 use crate::ConstraintNumbers;
 use constraint::Constraint;
 
-impl ConstraintNumbers {
-    // The Rust's constraint that the numbers stand for.
-    pub fn constraint(self) -> Constraint
-        ensures { result ≡ constraint_of_numbers self }
-    {
+// The Rust's constraint that the numbers stand for.
+impl From<ConstraintNumbers> for Constraint {
+    ghost from_gives = { λ n c. c ≡ constraint_of_numbers n };
+
+    fn from(n: ConstraintNumbers) -> Constraint {
         Constraint::of(
-            self.kind,
-            self.left,
-            self.target_case,
-            self.target,
-            self.extra_case,
-            self.extra,
+            n.kind,
+            n.left,
+            n.target_case,
+            n.target,
+            n.extra_case,
+            n.extra,
         )
     }
 }

@@ -1,7 +1,9 @@
 // Parts of a day as arrays, and the day as a struct, for calls that read them many times.
-ghost use Rattle.std.specs.Prelude.{◌≡◌, ◌+◌, ◌≤◌, length};
+#![tactic(auto, unfolding(crate::specs::Bytes::day_of, crate::specs::Bytes::list_in))]
+
+ghost use Rattle.std.specs.Prelude.{◌≡◌, ◌+◌, ◌*◌, ◌≤◌, length};
 ghost use Rattle.counting.specs.Fold.{table_to};
-ghost use Rattle.input_data.specs.Bytes.{IsDay, numbers_in, day_of};
+ghost use Rattle.input_data.specs.Bytes.{IsDay, list_in, day_of};
 ghost use Rattle.input_data.specs.BytesLaws.{word_from};
 
 use crate::bytes::{
@@ -9,72 +11,41 @@ use crate::bytes::{
     scheduling_count, slots, word,
 };
 use crate::{ConstraintList, ConstraintNumbers, InputData};
+use counting::table;
 
-// 32 numbers that stand from `at` on.
-fn words32(b: &[u8], at: usize) -> [u32; 32]
-    requires { at + 128 ≤ length b.now }
-    ensures { result ≡ table_to 32 (word_from b.now at) }
+// The numbers that stand from `at` on.
+fn words<const N: usize>(b: &[u8], at: usize) -> [u32; N]
+    requires { at + 4 * N ≤ length b.now }
+    ensures { result ≡ table_to N (word_from b.now at) }
 {
-    let mut out = [0u32; 32];
-    let mut i = 0;
-    while i < 32 {
-        out[i] = word(b, at + 4 * i);
-        i += 1;
-    }
-    out
+    table(0, |i| word(b, at + 4 * i))
 }
 
 pub fn mins_of(day: &[u8]) -> [u32; 32]
     requires { IsDay day.now }
     ensures { result ≡ (day_of day.now).mins }
 {
-    words32(day, 28)
+    words(day, 28)
 }
 
 pub fn maxs_of(day: &[u8]) -> [u32; 32]
     requires { IsDay day.now }
     ensures { result ≡ (day_of day.now).maxs }
 {
-    words32(day, 156)
-}
-
-fn members_of(day: &[u8]) -> [u32; 32]
-    requires { IsDay day.now }
-    ensures { result ≡ (day_of day.now).members }
-{
-    words32(day, 380)
-}
-
-fn lengths_of(day: &[u8]) -> [u32; 16]
-    requires { IsDay day.now }
-    ensures { result ≡ (day_of day.now).lengths }
-{
-    let mut out = [0u32; 16];
-    let mut i = 0;
-    while i < 16 {
-        out[i] = word(day, 316 + 4 * i);
-        i += 1;
-    }
-    out
+    words(day, 156)
 }
 
 fn optional_of(day: &[u8]) -> [bool; 32]
     requires { IsDay day.now }
     ensures { result ≡ (day_of day.now).optional }
 {
-    let mut out = [false; 32];
-    let mut i = 0;
-    while i < 32 {
-        out[i] = flag(day, 284 + i);
-        i += 1;
-    }
-    out
+    table(false, |i| flag(day, 284 + i))
 }
 
-// The constraints whose entries begin at `at`.
-fn entries_of(day: &[u8], at: usize) -> [ConstraintNumbers; 32]
+// The list of `count` constraints whose entries begin at `at`.
+fn list_at(day: &[u8], count: usize, at: usize) -> ConstraintList
     requires { at + 768 ≤ length day.now }
-    ensures { result ≡ table_to 32 (numbers_in day.now at) }
+    ensures { result ≡ list_in day.now count at }
 {
     let none = ConstraintNumbers {
         kind: 0,
@@ -84,22 +55,9 @@ fn entries_of(day: &[u8], at: usize) -> [ConstraintNumbers; 32]
         extra_case: 0,
         extra: 0,
     };
-    let mut out = [none; 32];
-    let mut i = 0;
-    while i < 32 {
-        out[i] = numbers_at(day, at, i);
-        i += 1;
-    }
-    out
-}
-
-fn scheduling_of(day: &[u8]) -> ConstraintList
-    requires { IsDay day.now }
-    ensures { result ≡ (day_of day.now).scheduling }
-{
     ConstraintList {
-        count: scheduling_count(day),
-        entries: entries_of(day, 508),
+        count,
+        entries: table(none, |j| numbers_at(day, at, j)),
     }
 }
 
@@ -107,10 +65,7 @@ pub fn assignment_of(day: &[u8]) -> ConstraintList
     requires { IsDay day.now }
     ensures { result ≡ (day_of day.now).assignment }
 {
-    ConstraintList {
-        count: assignment_count(day),
-        entries: entries_of(day, 1276),
-    }
+    list_at(day, assignment_count(day), 1276)
 }
 
 // The day as a struct.
@@ -126,10 +81,10 @@ pub fn day_of(day: &[u8]) -> InputData
         mins: mins_of(day),
         maxs: maxs_of(day),
         optional: optional_of(day),
-        scheduling: scheduling_of(day),
+        scheduling: list_at(day, scheduling_count(day), 508),
         assignment: assignment_of(day),
         groups: groups(day),
-        lengths: lengths_of(day),
-        members: members_of(day),
+        lengths: words(day, 316),
+        members: words(day, 380),
     }
 }

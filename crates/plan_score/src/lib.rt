@@ -14,18 +14,16 @@ fn major_of(greedy: bool, most: u32) -> f32
     ensures { result ≡ major_of greedy most }
 {
     if greedy {
-        return score::greedy_major();
+        score::greedy_major()
+    } else {
+        most as f32
     }
-    most as f32
 }
 
 fn finite_or_infinite(s: Score) -> Score
     ensures { result ≡ finite_or_infinite s }
 {
-    if s.is_finite() {
-        return s;
-    }
-    Score::infinite()
+    if s.is_finite() { s } else { Score::infinite() }
 }
 
 // The score of a feasible plan.
@@ -41,11 +39,12 @@ fn score_of(day: &[u8], greedy: bool, preferences: &[u32], powers: &[f32], plan:
     let minor = seat_counts::minor(&counts, powers, input_data::max_preference(day) as usize);
     finite_or_infinite(Score {
         major: major_of(greedy, most),
-        minor: minor,
+        minor,
     })
 }
 
 // The score of a plan that was looked at: infinite twice where it is not feasible.
+#[tactic(auto, unfolding(crate::specs::Evaluate::evaluated))]
 pub fn evaluate_plan(
     day: &[u8],
     greedy: bool,
@@ -58,9 +57,10 @@ pub fn evaluate_plan(
     ensures { result ≡ evaluated (day_of day.now) greedy preferences.now powers.now entries.now plan.now }
 {
     if feasibility::plan_holds(day, entries, plan) {
-        return score_of(day, greedy, preferences, powers, plan);
+        score_of(day, greedy, preferences, powers, plan)
+    } else {
+        Score::infinite()
     }
-    Score::infinite()
 }
 
 // 2. A table has not its length, or the plan, if there is one.

@@ -1,10 +1,13 @@
 -- Laws of the steps: the start, the middle, what narrows a range; parts of lent bytes and their copies. Assumes nothing.
-use Rattle.std.specs.Prelude.{ℕ, ◌+◌, ◌-◌, ◌<◌, ◌≤◌, ◌≡◌, refl, Bool, true, false, ◌&&◌, List, ◌≢◌, length, take, drop}
+use Rattle.std.specs.Prelude.{ℕ, ◌+◌, ◌-◌, ◌<◌, ◌≤◌, ◌≡◌, refl, Bool, true, false, ◌&&◌, List, ◌≢◌, leb, Some, None, length, take, drop}
 use Rattle.std.proofs.Common.{sym, ◌∙◌, arith, length-drop, ext_get_or, length-take-le, lt-ltb, le-ltb}
 use Rattle.std.proofs.lemmas.Bool.{eqb-false}
+use Rattle.std.proofs.lemmas.List.Quantifiers.{position-Some}
+use Rattle.std.proofs.lemmas.List.Sums.{fails_before_first}
+use Rattle.std.specs.List.{position, position_or_len}
 use Rattle.counting.specs.Lists.{Padded}
 use Rattle.counting.specs.Search.{first_to}
-use Rattle.counting.specs.SearchLaws.{first_at, first_passes}
+use Rattle.counting.specs.SearchLaws.{first_at, first_none, first_passes}
 use Rattle.counting.specs.Tests.{lt_cases, never, eq_cases}
 use Rattle.assignment.specs.Calls.{seats}
 use Rattle.input_data.specs.declared.InputData.{InputData}
@@ -52,6 +55,19 @@ start_last levels bound p =
     lt_cases f (n - 1)
     (λ h t. never (sym (first_passes n (reaches levels bound) (omega arith)) ∙ p.fails f h))
     (λ h t. omega arith)
+
+-- .. as the library finds it
+pub start_some : (levels : List ℕ) (bound i : ℕ) → position (leb bound) levels ≡ Some i → i ≡ start_of levels bound
+unfolding start_of
+start_some levels bound i e = let q = position-Some (leb bound) levels i 0 e in omega (arith, q.0, first_at (length levels) (reaches levels bound) i q.0 q.2 q.1)
+
+pub start_none : (levels : List ℕ) (bound : ℕ) → position (leb bound) levels ≡ None → length levels - 1 ≡ start_of levels bound
+unfolding start_of
+start_none levels bound e =
+    let p = leb bound in
+    lt_cases (position_or_len p levels) (length levels)
+    (λ h t. let z : Some (position_or_len p levels) ≡ None = rw t at e in cc)
+    (λ h t. omega (arith, first_none (length levels) (reaches levels bound) (λ k l. fails_before_first p levels k 0 (omega arith))))
 
 pub start_most : (levels : List ℕ) (bound : ℕ) → start_of levels bound ≤ length levels - 1
 unfolding start_of

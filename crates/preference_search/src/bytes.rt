@@ -19,31 +19,13 @@ pub fn seats(day: &[u8]) -> usize
     input_data::choosers(day) * input_data::slots(day)
 }
 
-// A schedule's bytes as an array.
-fn entries_of(b: &[u8]) -> [u8; 32]
-    requires { length b.now ≡ 32 }
+// Bytes as an array.
+fn array_of<const N: usize>(b: &[u8]) -> [u8; N]
+    requires { length b.now ≡ N }
     ensures { result ≡ b.now }
 {
-    let mut out = [0u8; 32];
-    let mut i = 0;
-    while i < 32 {
-        out[i] = b[i];
-        i += 1;
-    }
-    out
-}
-
-// A plan's bytes as an array.
-fn plan_of(b: &[u8]) -> [u8; 512]
-    requires { length b.now ≡ 512 }
-    ensures { result ≡ b.now }
-{
-    let mut out = [0u8; 512];
-    let mut i = 0;
-    while i < 512 {
-        out[i] = b[i];
-        i += 1;
-    }
+    let mut out = [0; N];
+    out.copy_from_slice(b);
     out
 }
 
@@ -56,9 +38,9 @@ pub fn cached_of(cached: &[u8]) -> CachedAssignment
         there: flag(cached, 0),
         greedy: flag(cached, 1),
         schedule: Scheduling {
-            entries: entries_of(&cached[2..34]),
+            entries: array_of(&cached[2..34]),
         },
-        plan: plan_of(&cached[34..546]),
+        plan: array_of(&cached[34..546]),
     }
 }
 
@@ -70,7 +52,7 @@ pub fn known_by(search: &[u8], mark: bool) -> Known
     Known {
         found: flag(search, 2),
         level: word(search, 8),
-        plan: plan_of(&search[56..568]),
+        plan: array_of(&search[56..568]),
         optimal: mark,
     }
 }

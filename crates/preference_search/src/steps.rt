@@ -1,5 +1,5 @@
 // The parts of a step: where a search starts, what an answer teaches, what is left of the range.
-ghost use Rattle.std.specs.Prelude.{true, ◌≡◌, ◌<◌, ◌≤◌, length};
+ghost use Rattle.std.specs.Prelude.{position, leb, true, ◌≡◌, ◌<◌, ◌≤◌, length};
 ghost use Rattle.preference_search.specs.Bytes.{IsSearch, search_in};
 ghost use Rattle.preference_search.specs.Laws.{is_infeasible};
 ghost use Rattle.preference_search.specs.Search.{ends_at, found_at, high_after, is_feasible, learnt, learnt_greedy, low_after, marked, middle, nothing, start_of, told};
@@ -46,11 +46,10 @@ pub fn found_at(seats: usize, level: u32, plan: &[u8], mark: bool) -> Known
     requires { seats ≤ length plan.now }
     ensures { result ≡ found_at seats level plan.now mark }
 {
-    let kept = assignment::kept_plan(seats, plan);
     Known {
         found: true,
-        level: level,
-        plan: kept,
+        level,
+        plan: assignment::kept_plan(seats, plan),
         optimal: mark,
     }
 }
@@ -112,6 +111,7 @@ pub fn high_after(high: u32, m: u32, res: LimitSolveResult) -> u32
     }
 }
 
+#[tactic(auto, unfolding(crate::specs::Search::middle))]
 pub fn middle_of(low: u32, high: u32) -> u32
     requires { low ≤ high }
     ensures { result ≡ middle low high }
@@ -119,18 +119,21 @@ pub fn middle_of(low: u32, high: u32) -> u32
     low + (high - low) / 2
 }
 
-// The first level at or above the bound, else the last index.
+// The first level at or above the bound.
+fn first_level(levels: &[u32], bound: u32) -> Option<usize>
+    ensures { result ≡ position (leb bound) levels.now }
+{
+    levels.iter().position(|level| bound <= *level)
+}
+
+// That, else the last index.
+#[tactic(auto, using(crate::specs::Laws::start_some, crate::specs::Laws::start_none))]
 pub fn start_of(levels: &[u32], bound: u32) -> usize
     requires { (0 < length levels.now) × (length levels.now ≤ 256) }
     ensures { result ≡ start_of levels.now bound }
 {
-    let last = levels.len() - 1;
-    let mut i = 0;
-    while i < last {
-        if bound <= levels[i] {
-            return i;
-        }
-        i += 1;
+    match first_level(levels, bound) {
+        Some(i) => i,
+        None => levels.len() - 1,
     }
-    last
 }

@@ -1,7 +1,7 @@
 // The numbers of begin and tell.
 #![tactic(auto)]
 
-ghost use Rattle.std.specs.Prelude.{◌&&◌, not, ◌≡◌, eqb};
+ghost use Rattle.std.specs.Prelude.{◌≡◌};
 ghost use Rattle.input_data.specs.Bytes.{IsDay, day_of};
 ghost use Rattle.input_data.specs.Lengths.{Within};
 ghost use Rattle.assignment.specs.Laws.{Small};
@@ -49,6 +49,7 @@ fn beside(day: &[u8], levels: &[u32], wrong: bool) -> Beside
     }
 }
 
+#[tactic(auto, using(input_data::specs::Numbers::number_refused, input_data::specs::Numbers::number_else, crate::specs::Numbers::begin_number_lem, crate::specs::Numbers::begin_passed))]
 pub fn begin_number(
     limits: Limits,
     day: &[u8],
@@ -75,6 +76,7 @@ pub fn begin_number(
 }
 
 // 18. `count` is the count of levels.
+#[tactic(auto, unfolding(crate::specs::Checks::spent_at))]
 fn is_spent(search: &[u8], count: usize) -> bool
     requires { IsSearch search.now }
     ensures { result ≡ spent (search_in search.now) count }
@@ -83,13 +85,6 @@ fn is_spent(search: &[u8], count: usize) -> bool
     let high = word(search, 20);
     let range = (low < word(search, 12)) | (high < low) | (count <= high as usize);
     !flag(search, 0) | (256 < word(search, 4)) | (!flag(search, 1) & range)
-}
-
-// 2 of a told plan, which is looked at where the result is feasible.
-fn wrong_length(feasible: bool, size: usize, plan: usize) -> bool
-    ensures { result ≡ (feasible && not (eqb plan size)) }
-{
-    feasible & (plan != size)
 }
 
 // 13 of the told plan and of the best so far.
@@ -110,6 +105,7 @@ fn bad_plans(day: &[u8], search: &[u8], res: LimitSolveResult, plan: &[u8]) -> b
 }
 
 // 11, 13 and 18 of what a search holds and is told.
+#[tactic(auto, unfolding(crate::specs::Checks::held_number))]
 fn held_number(day: &[u8], search: &[u8], count: usize, res: LimitSolveResult, plan: &[u8]) -> u32
     requires { Telling day.now search.now res plan.now }
     ensures { result ≡ held_number (day_of day.now) (search_in search.now) count (told res plan.now) }
@@ -122,6 +118,7 @@ fn held_number(day: &[u8], search: &[u8], count: usize, res: LimitSolveResult, p
     input_data::first(outside, 11, from13)
 }
 
+#[tactic(auto, using(input_data::specs::Numbers::number_refused, input_data::specs::Numbers::number_else, crate::specs::Numbers::tell_number_lem, crate::specs::Numbers::tell_passed))]
 pub fn tell_number(
     limits: Limits,
     day: &[u8],
@@ -134,7 +131,8 @@ pub fn tell_number(
     ensures { result ≡ tell_lent_number limits day.now search.now levels.now (told res plan.now) }
 {
     let size = limits.choosers * limits.slots;
-    let wrong = wrong_length(is_feasible(res), size, plan.len());
+    // 2 of a told plan, which is looked at where the result is feasible.
+    let wrong = is_feasible(res) & (plan.len() != size);
     let lengths = (search.len() != 1114) | wrong;
     let number = day_checks::day_number(limits, day, beside(day, levels, lengths), 0);
     if number != 0 {

@@ -30,26 +30,25 @@ pub fn hand_back(
 ) -> SearchAnswer
     ensures { result ≡ search_answer level index (search_with asking greedy asks start low high entries known cached) }
 {
-    let plan = known.plan;
-    let search = Search {
-        asking: asking,
-        greedy: greedy,
-        found: known.found,
-        optimal: known.optimal,
-        asks: asks,
-        level: known.level,
-        start: start,
-        low: low,
-        high: high,
-        schedule: Scheduling { entries: entries },
-        plan: plan,
-        cached: cached,
-    };
+    let plan = known.plan; // the prover takes an array field into a literal by a variable only
     SearchAnswer {
         number: 0,
-        level: level,
-        index: index,
-        search: search,
+        level,
+        index,
+        search: Search {
+            asking,
+            greedy,
+            found: known.found,
+            optimal: known.optimal,
+            asks,
+            level: known.level,
+            start,
+            low,
+            high,
+            schedule: Scheduling { entries },
+            plan,
+            cached,
+        },
     }
 }
 
@@ -63,12 +62,12 @@ fn remember(
     ensures { result ≡ remembered greedy entries known cached }
 {
     if known.found & known.optimal {
-        let plan = known.plan;
+        let plan = known.plan; // the prover takes an array field into a literal by a variable only
         return CachedAssignment {
             there: true,
-            greedy: greedy,
-            schedule: Scheduling { entries: entries },
-            plan: plan,
+            greedy,
+            schedule: Scheduling { entries },
+            plan,
         };
     }
     cached
@@ -94,6 +93,7 @@ pub fn end(
 }
 
 // The next ask of a range, or its end.
+#[tactic(auto, using(preference_search::specs::Laws::middle_most), unfolding(preference_search::specs::Steps::next))]
 pub fn go_on(
     levels: &[u32],
     asks: u32,
@@ -111,15 +111,24 @@ pub fn go_on(
         return end(false, asks, start, low, high, entries, known, cached);
     }
     let m = middle_of(low, high);
-    let count = asks + 1;
-    let level = levels[m as usize];
     hand_back(
-        true, false, count, level, m, start, low, high, entries, known, cached,
+        true,
+        false,
+        asks + 1,
+        levels[m as usize],
+        m,
+        start,
+        low,
+        high,
+        entries,
+        known,
+        cached,
     )
 }
 
 // The next ask of a range where the best plan so far stays: most asks are such, so the answer is made
 // from the lent bytes at once.
+#[tactic(auto, using(preference_search::specs::Laws::middle_most))]
 pub fn ask_again(
     levels: &[u32],
     search: &[u8],
@@ -133,26 +142,25 @@ pub fn ask_again(
 {
     let m = middle_of(low, high);
     let known = known_by(search, mark);
-    let plan = known.plan;
-    let search = Search {
-        asking: true,
-        greedy: false,
-        found: known.found,
-        optimal: known.optimal,
-        asks: word(search, 4) + 1,
-        level: known.level,
-        start: word(search, 12),
-        low: low,
-        high: high,
-        schedule: Scheduling { entries: entries },
-        plan: plan,
-        cached: cached_of(&search[568..1114]),
-    };
+    let plan = known.plan; // the prover takes an array field into a literal by a variable only
     SearchAnswer {
         number: 0,
         level: levels[m as usize],
         index: m,
-        search: search,
+        search: Search {
+            asking: true,
+            greedy: false,
+            found: known.found,
+            optimal: known.optimal,
+            asks: word(search, 4) + 1,
+            level: known.level,
+            start: word(search, 12),
+            low,
+            high,
+            schedule: Scheduling { entries },
+            plan,
+            cached: cached_of(&search[568..1114]),
+        },
     }
 }
 
@@ -179,13 +187,14 @@ pub fn recall(seats: usize, greedy: bool, entries: [u8; 32], cached: &[u8]) -> S
 }
 
 // The search over levels; without levels it ends at once.
+#[tactic(auto, using(preference_search::specs::Laws::start_most), unfolding(preference_search::specs::Steps::begun_levels))]
 pub fn begin_levels(levels: &[u32], bound: u32, entries: [u8; 32], cached: &[u8]) -> SearchAnswer
     requires { IsCached cached.now × (length levels.now ≤ 256) }
     ensures { result ≡ begun_levels levels.now bound entries (cached_in cached.now) }
 {
     let known = nothing_known(true);
     let held = cached_of(cached);
-    if levels.len() == 0 {
+    if levels.is_empty() {
         return hand_back(false, false, 0, 0, 0, 0, 0, 0, entries, known, held);
     }
     let start = start_of(levels, bound) as u32;
@@ -198,7 +207,7 @@ pub fn refuse(number: u32) -> SearchAnswer
     ensures { result ≡ search_refused number }
 {
     SearchAnswer {
-        number: number,
+        number,
         level: 0,
         index: 0,
         search: Search {

@@ -1,12 +1,12 @@
 -- What the walks that fill a roster ask, and their laws. Definitions and their laws.
 use Rattle.std.specs.Prelude.{ℕ, suc, ◌+◌, ◌*◌, ◌<◌, ◌≤◌, ◌≡◌, refl, Bool, true, false, List, [], ◌∷◌, ◌≢◌, eqb, ltb, leb, length, set}
-use Rattle.std.proofs.Common.{sym, ap, ◌∙◌, zero-add, arith, ne_eqb, leb-false, ltb-false}
+use Rattle.std.proofs.Common.{sym, ap, ◌∙◌, zero-add, arith, eq-eqb, ne_eqb, leb-false, ltb-false}
 use Rattle.counting.specs.FoldLaws.{fold_suc, fold_ext}
 use Rattle.counting.specs.Fold.{gate, sum_to, only_if, join_to}
 use Rattle.counting.specs.Lists.{length_join, length_join_most, only_length}
 use Rattle.counting.specs.Sums.{sum_mono, sum_swap, sum_pick, sum_most}
 use Rattle.counting.specs.Tests.{bool_cases, eqb_sym}
-use Rattle.counting.specs.WrittenLaws.{Put, one_buffer, put_none, written_one}
+use Rattle.counting.specs.WrittenLaws.{Put, one_buffer, put_none, put_step, put_length, written_one}
 use Rattle.input_data.specs.Bytes.{lent_number}
 use Rattle.input_data.specs.BytesLaws.{lent_short}
 use Rattle.input_data.specs.Lengths.{Within, roster_length}
@@ -51,6 +51,10 @@ put_no v d at e = rw e (put_none (one_buffer ℕ) d at)
 pub join_room : {A : Type 0} (n : ℕ) (f : ℕ → List A) (i : ℕ) → i < n → length (join_to i f) + length (f i) ≤ length (join_to n f)
 join_room n f i h = omega (arith, length_join i f, length_join n f, fold_suc ◌+◌ 0 i (λ k. length (f k)), sum_mono (suc i) n (λ k. length (f k)) h)
 
+-- the next run of a join that a walk stores has room
+pub run_room : {A : Type 0} {n i at₀ at : ℕ} (f : ℕ → List A) {d₀ d : List A} → i < n → Put (one_buffer A) d₀ at₀ (join_to i f) d at → at₀ + length (join_to n f) ≤ length d₀ → at + length (f i) ≤ length d
+run_room {n = n} {i = i} f h p room = omega (arith, p.count, put_length p, join_room n f i h)
+
 -- a row has at most one entry a slot
 row_most : (slots : ℕ) (plan : List ℕ) (base k v : ℕ) → length (row slots plan base k v) ≤ slots
 unfolding row
@@ -82,6 +86,20 @@ choices_most choices slots plan c =
   where
     at_most : (m : ℕ) → sum_to choices (λ k. gate (eqb k m) 1) ≤ 1
     at_most m = rw (sum_pick choices (λ k. 1) m) (bool_cases (ltb m choices) (λ e. rw e (omega arith)) (λ e. rw e (omega arith)))
+
+-- ---- a row
+
+-- a seat that is the choice: its value has room, and is stored
+pub seat_room : (slots : ℕ) (plan : List ℕ) (base k v : ℕ) {at s to : ℕ} {d₀ d : List ℕ} → RowIn slots plan base k v at (length d₀) → s < slots → Put (one_buffer ℕ) d₀ at (join_to s (seat_once plan base k v)) d to → entry_at plan (base + s) ≡ k → to < length d
+unfolding row
+seat_room slots plan base k v {s = s} r h p e = omega (arith, rw (eq-eqb (entry_at plan (base + s)) k e) at (run_room (seat_once plan base k v) h p r.room))
+
+pub seat_more : (plan : List ℕ) (base k v s : ℕ) {at to : ℕ} {d₀ d : List ℕ} → Put (one_buffer ℕ) d₀ at (join_to s (seat_once plan base k v)) d to → entry_at plan (base + s) ≡ k → Put (one_buffer ℕ) d₀ at (join_to (s + 1) (seat_once plan base k v)) (set d to v) (to + 1)
+seat_more plan base k v s {to = to} {d = d} p e = put_step (seat_once plan base k v) p (put_one v d to (eq-eqb (entry_at plan (base + s)) k e))
+
+-- any other seat adds nothing
+pub seat_skip : (plan : List ℕ) (base k v s : ℕ) {at to : ℕ} {d₀ d : List ℕ} → Put (one_buffer ℕ) d₀ at (join_to s (seat_once plan base k v)) d to → entry_at plan (base + s) ≢ k → Put (one_buffer ℕ) d₀ at (join_to (s + 1) (seat_once plan base k v)) d to
+seat_skip plan base k v s {to = to} {d = d} p e = put_step (seat_once plan base k v) p (put_no v d to (ne_eqb (entry_at plan (base + s)) k e))
 
 -- ---- what accepted input satisfies
 

@@ -1,12 +1,11 @@
 // assignment.rs, rosters: the choosers of a choice, the choices of a chooser.
 #![tactic(auto)]
 
-ghost use Rattle.std.specs.Prelude.{◌≡◌, [], ◌∷◌, ◌+◌, ◌≤◌, length};
-ghost use Rattle.counting.specs.Fold.{only_if};
+ghost use Rattle.std.specs.Prelude.{length};
 ghost use Rattle.counting.specs.WrittenLaws.{Put, one_buffer};
 ghost use Rattle.input_data.specs.Lengths.{Within, full_day};
 ghost use Rattle.assignment.specs.Plan.{row, choosers_ordered, choices_ordered};
-ghost use Rattle.rosters.specs.Calls.{roster_answer, ChoosersOrdered, ChoicesOrdered};
+ghost use Rattle.rosters.specs.Calls.{ChoosersOrdered, ChoicesOrdered};
 ghost use Rattle.rosters.specs.Laws.{RowIn, ChoosersIn, ChoicesIn};
 
 use assignment::plan_number;
@@ -18,18 +17,6 @@ use input_data::Limits;
 pub struct RosterAnswer {
     pub number: u32,
     pub length: usize,
-}
-
-// Stores a value where the test holds.
-fn put_if(test: bool, value: u8, roster: &mut [u8], at: usize) -> usize
-    requires { at + length (only_if test (value ∷ [])) ≤ length roster.old }
-    ensures { Put (one_buffer _) roster.old at (only_if test (value ∷ [])) roster.new result }
-{
-    if test {
-        roster[at] = value;
-        return at + 1;
-    }
-    at
 }
 
 // Stores a value once for each slot in which the row's seat is the choice.
@@ -46,10 +33,11 @@ fn put_row(
     ensures { Put (one_buffer _) roster.old at (row slots plan.now base choice value) roster.new result }
 {
     let mut to = at;
-    let mut s = 0;
-    while s < slots {
-        to = put_if(plan[base + s] as usize == choice, value, roster, to);
-        s += 1;
+    for s in 0..slots {
+        if plan[base + s] as usize == choice {
+            roster[to] = value;
+            to += 1;
+        }
     }
     to
 }
@@ -66,10 +54,8 @@ fn put_choosers(
     ensures { Put (one_buffer _) roster.old 0 (choosers_ordered choosers slots plan.now choice) roster.new result }
 {
     let mut at = 0;
-    let mut c = 0;
-    while c < choosers {
+    for c in 0..choosers {
         at = put_row(slots, plan, c * slots, choice, c as u8, roster, at);
-        c += 1;
     }
     at
 }
@@ -87,23 +73,13 @@ fn put_choices(
 {
     let base = chooser * slots;
     let mut at = 0;
-    let mut k = 0;
-    while k < choices {
+    for k in 0..choices {
         at = put_row(slots, plan, base, k, k as u8, roster, at);
-        k += 1;
     }
     at
 }
 
-fn roster_answer(number: u32, length: usize) -> RosterAnswer
-    ensures { result ≡ roster_answer number length }
-{
-    RosterAnswer {
-        number: number,
-        length: length,
-    }
-}
-
+#[tactic(auto, using(crate::specs::Laws::choosers_in, crate::specs::Laws::roster_refused, crate::specs::Laws::roster_done, assignment::specs::Laws::plan_lent_lem))]
 fn choosers_within(
     limits: Limits,
     day: &[u8],
@@ -115,28 +91,33 @@ fn choosers_within(
     ensures { ChoosersOrdered limits day.now plan.now choice roster.old roster.new result }
 {
     if day.len() != 2044 {
-        return roster_answer(2, 0);
+        return RosterAnswer {
+            number: 2,
+            length: 0,
+        };
     }
     let short = roster.len() < limits.choosers * limits.slots;
     let asked = input_data::choices(day) <= choice;
     let number = plan_number(limits, day, plan, short, asked);
     if number != 0 {
-        return roster_answer(number, 0);
+        return RosterAnswer { number, length: 0 };
     }
     let choosers = input_data::choosers(day);
-    roster_answer(
-        0,
-        put_choosers(choosers, input_data::slots(day), plan, choice, roster),
-    )
+    RosterAnswer {
+        number: 0,
+        length: put_choosers(choosers, input_data::slots(day), plan, choice, roster),
+    }
 }
 
 // The choosers of a choice, each once for each slot in which it has the choice.
+#[tactic(auto, using(input_data::specs::Numbers::full_within))]
 pub fn choosers_ordered(day: &[u8], plan: &[u8], choice: usize, roster: &mut [u8]) -> RosterAnswer
     ensures { ChoosersOrdered full_day day.now plan.now choice roster.old roster.new result }
 {
     choosers_within(input_data::full_day(), day, plan, choice, roster)
 }
 
+#[tactic(auto, using(crate::specs::Laws::choices_in, crate::specs::Laws::roster_refused, crate::specs::Laws::roster_done, assignment::specs::Laws::plan_lent_lem))]
 fn choices_within(
     limits: Limits,
     day: &[u8],
@@ -148,22 +129,26 @@ fn choices_within(
     ensures { ChoicesOrdered limits day.now plan.now chooser roster.old roster.new result }
 {
     if day.len() != 2044 {
-        return roster_answer(2, 0);
+        return RosterAnswer {
+            number: 2,
+            length: 0,
+        };
     }
     let short = roster.len() < limits.choosers * limits.slots;
     let asked = input_data::choosers(day) <= chooser;
     let number = plan_number(limits, day, plan, short, asked);
     if number != 0 {
-        return roster_answer(number, 0);
+        return RosterAnswer { number, length: 0 };
     }
     let choices = input_data::choices(day);
-    roster_answer(
-        0,
-        put_choices(choices, input_data::slots(day), plan, chooser, roster),
-    )
+    RosterAnswer {
+        number: 0,
+        length: put_choices(choices, input_data::slots(day), plan, chooser, roster),
+    }
 }
 
 // The choices of a chooser in order, each once for each slot in which the chooser has it.
+#[tactic(auto, using(input_data::specs::Numbers::full_within))]
 pub fn choices_ordered(day: &[u8], plan: &[u8], chooser: usize, roster: &mut [u8]) -> RosterAnswer
     ensures { ChoicesOrdered full_day day.now plan.now chooser roster.old roster.new result }
 {

@@ -1,196 +1,98 @@
 // What the program prints, part by part.
 use constraint::Constraint;
-use counting::at_most;
-use score::{Ordering, Score};
-use std::io;
+use score::Score;
+use std::cmp::Ordering;
+use std::fmt;
 
-pub(crate) fn say(rt: &HostRuntime, text: &str) -> io::Result<()> {
-    print!(rt; "{text}")
-}
+// What a call's number means.
+#[derive(Clone, Copy)]
+pub(crate) struct Outcome(pub(crate) u32);
 
-fn say_number(rt: &HostRuntime, n: usize) -> io::Result<()> {
-    print!(rt; "{n}")
-}
-
-// A text, and a number behind it.
-pub(crate) fn say_with(rt: &HostRuntime, text: &str, n: usize) -> io::Result<()> {
-    say(rt, text)?;
-    say_number(rt, n)
-}
-
-pub(crate) fn say_word(rt: &HostRuntime, text: &str, n: u32) -> io::Result<()> {
-    say_with(rt, text, n as usize)
-}
-
-pub(crate) fn say_signed(rt: &HostRuntime, n: i32) -> io::Result<()> {
-    print!(rt; "{n}")
-}
-
-// A cost: no model has a negative one.
-pub(crate) fn say_cost(rt: &HostRuntime, cost: i64) -> io::Result<()> {
-    if 0 <= cost {
-        return print!(rt; "{cost}");
+impl fmt::Display for Outcome {
+    fn fmt<W: fmt::Write>(&self, f: &mut fmt::Formatter<W>) -> fmt::Result {
+        if self.0 == 0 {
+            return write!(f, "accepted");
+        }
+        write!(f, "refused by {}", self.0)
     }
-    say(rt, "negative")
 }
 
-// What a call's number means, behind a text.
-pub(crate) fn say_outcome(rt: &HostRuntime, text: &str, number: u32) -> io::Result<()> {
-    say(rt, text)?;
-    if number == 0 {
-        return say(rt, "accepted");
+pub(crate) fn yes_or_no(holds: bool) -> &'static str {
+    if holds { "yes" } else { "no" }
+}
+
+// The numbers of a list, each with a blank before it.
+#[derive(Clone, Copy)]
+pub(crate) struct Listed<'a, T>(pub(crate) &'a [T]);
+
+impl<'a, T: fmt::Display> fmt::Display for Listed<'a, T> {
+    fn fmt<W: fmt::Write>(&self, f: &mut fmt::Formatter<W>) -> fmt::Result {
+        for x in self.0 {
+            write!(f, " {x}")?;
+        }
+        Ok(())
     }
-    say_word(rt, "refused by ", number)
-}
-
-// A whole line of these.
-pub(crate) fn row_of_outcome(rt: &HostRuntime, text: &str, number: u32) -> io::Result<()> {
-    say_outcome(rt, text, number)?;
-    say(rt, "\n")
-}
-
-pub(crate) fn row_of_verdict(rt: &HostRuntime, text: &str, holds: bool) -> io::Result<()> {
-    say(rt, text)?;
-    if holds {
-        return say(rt, "yes\n");
-    }
-    say(rt, "no\n")
-}
-
-// A number of a list, with a blank before it.
-fn say_byte(rt: &HostRuntime, n: u8) -> io::Result<()> {
-    say_with(rt, " ", n as usize)
-}
-
-fn say_half(rt: &HostRuntime, n: u16) -> io::Result<()> {
-    say_with(rt, " ", n as usize)
-}
-
-fn say_whole(rt: &HostRuntime, n: i32) -> io::Result<()> {
-    say(rt, " ")?;
-    say_signed(rt, n)
-}
-
-fn say_bytes(rt: &HostRuntime, list: &[u8], start: usize, end: usize) -> io::Result<()> {
-    let n = at_most(list.len(), end);
-    let mut i = start;
-    while i < n {
-        say_byte(rt, list[i])?;
-        i += 1;
-    }
-    Ok(())
-}
-
-// A line with the bytes of a list from a place up to another.
-pub(crate) fn row_of_bytes(
-    rt: &HostRuntime,
-    text: &str,
-    list: &[u8],
-    start: usize,
-    end: usize,
-) -> io::Result<()> {
-    say(rt, text)?;
-    say_bytes(rt, list, start, end)?;
-    say(rt, "\n")
-}
-
-// The numbers of a list from a place up to another.
-pub(crate) fn say_numbers(
-    rt: &HostRuntime,
-    list: &[u16],
-    start: usize,
-    end: usize,
-) -> io::Result<()> {
-    let n = at_most(list.len(), end);
-    let mut i = start;
-    while i < n {
-        say_half(rt, list[i])?;
-        i += 1;
-    }
-    Ok(())
-}
-
-// The first numbers of a list.
-pub(crate) fn say_signed_list(rt: &HostRuntime, list: &[i32], count: usize) -> io::Result<()> {
-    let n = at_most(list.len(), count);
-    let mut i = 0;
-    while i < n {
-        say_whole(rt, list[i])?;
-        i += 1;
-    }
-    Ok(())
-}
-
-fn say_hundredths(rt: &HostRuntime, n: u64) -> io::Result<()> {
-    print!(rt; "{}", n / 100)?;
-    let rest = n % 100;
-    if rest != 0 {
-        print!(rt; ".{rest:02}")?;
-    }
-    Ok(())
-}
-
-fn say_hex(rt: &HostRuntime, x: f32) -> io::Result<()> {
-    print!(rt; "{:08x}", score::bits(x))
-}
-
-fn say_bits(rt: &HostRuntime, x: f32) -> io::Result<()> {
-    say(rt, "bits ")?;
-    say_hex(rt, x)
 }
 
 // A float from 0 on to its hundredths, and one that is negative or too large by its bits.
-pub(crate) fn say_float(rt: &HostRuntime, x: f32) -> io::Result<()> {
-    if x != x {
-        return say(rt, "NaN");
-    }
-    if x < 0.0 {
-        return say_bits(rt, x);
-    }
-    // The cast asks for both tests.
-    let hundredths = x * 100.0;
-    if -1.0 < hundredths {
-        if hundredths < 18446744073709551616.0 {
-            say_hundredths(rt, std::num::truncating_f32_to_u64(hundredths))?;
+#[derive(Clone, Copy)]
+struct Hundredths(f32);
+
+impl fmt::Display for Hundredths {
+    fn fmt<W: fmt::Write>(&self, f: &mut fmt::Formatter<W>) -> fmt::Result {
+        let x = self.0;
+        if x != x {
+            return write!(f, "NaN");
+        }
+        let hundredths = x * 100.0;
+        // The cast asks for the last two tests.
+        if !(x < 0.0) && -1.0 < hundredths && hundredths < 18446744073709551616.0 {
+            let n = std::num::truncating_f32_to_u64(hundredths);
+            let rest = n % 100;
+            write!(f, "{}", n / 100)?;
+            if rest != 0 {
+                write!(f, ".{rest:02}")?;
+            }
             return Ok(());
         }
+        write!(f, "bits {:08x}", score::bits(x))
     }
-    say_bits(rt, x)
 }
 
-pub(crate) fn say_score(rt: &HostRuntime, s: Score) -> io::Result<()> {
-    say(rt, "(")?;
-    say_float(rt, s.major)?;
-    say(rt, ",")?;
-    say_float(rt, s.minor)?;
-    say(rt, ")")
+#[derive(Clone, Copy)]
+pub(crate) struct Printed(pub(crate) Score);
+
+impl fmt::Display for Printed {
+    fn fmt<W: fmt::Write>(&self, f: &mut fmt::Formatter<W>) -> fmt::Result {
+        let major = Hundredths(self.0.major);
+        let minor = Hundredths(self.0.minor);
+        write!(f, "({major},{minor})")
+    }
 }
 
-pub(crate) fn say_score_bits(rt: &HostRuntime, s: Score) -> io::Result<()> {
-    say(rt, "bits ")?;
-    say_hex(rt, s.major)?;
-    say(rt, " ")?;
-    say_hex(rt, s.minor)
-}
-
-pub(crate) fn say_ordering(rt: &HostRuntime, o: Ordering) -> io::Result<()> {
+pub(crate) fn name_of(o: Ordering) -> &'static str {
     match o {
-        Ordering::Less => say(rt, "less"),
-        Ordering::Equal => say(rt, "equal"),
-        Ordering::Greater => say(rt, "greater"),
+        Ordering::Less => "less",
+        Ordering::Equal => "equal",
+        Ordering::Greater => "greater",
     }
 }
 
-pub(crate) fn say_constraint(rt: &HostRuntime, c: Constraint) -> io::Result<()> {
-    let kind = c.kind;
-    let right = c.right;
-    let extra = c.extra;
-    say_word(rt, "kind ", kind.number())?;
-    say_with(rt, ", left ", c.left)?;
-    say_word(rt, ", target case ", right.case())?;
-    say_with(rt, ", target ", right.operand())?;
-    say_word(rt, ", extra case ", extra.case())?;
-    say(rt, ", extra ")?;
-    say_signed(rt, extra.operand())?;
-    say(rt, "\n")
+#[derive(Clone, Copy)]
+pub(crate) struct Parts(pub(crate) Constraint);
+
+impl fmt::Display for Parts {
+    fn fmt<W: fmt::Write>(&self, f: &mut fmt::Formatter<W>) -> fmt::Result {
+        let c = self.0;
+        write!(
+            f,
+            "kind {}, left {}, target case {}, target {}, extra case {}, extra {}",
+            u32::from(c.kind),
+            c.left,
+            c.right.case(),
+            c.right.operand(),
+            c.extra.case(),
+            c.extra.operand(),
+        )
+    }
 }

@@ -1,27 +1,47 @@
 // The rows on models, on the values of their edges, and on plans.
 use crate::layouts::schedule_of;
-use crate::lines::{
-    row_of_bytes, row_of_outcome, row_of_verdict, say, say_cost, say_numbers, say_score,
-    say_score_bits, say_signed_list, say_with, say_word,
-};
+use crate::lines::{Listed, Outcome, Printed, yes_or_no};
 use crate::states::built;
-use counting::at_most;
 use model_buffers::ModelAnswer;
 use scoring::Solution;
 use std::io;
 
-fn preferences() -> [u32; 6] {
-    [0, 1, 0, 0, 2, 1]
-}
+const PREFERENCES: [u32; 6] = [0, 1, 0, 0, 2, 1];
 
 // The costs are cubes (SPEC 13.1).
-fn costs() -> [i64; 3] {
-    [1, 8, 27]
+const COSTS: [i64; 3] = [1, 8, 27];
+
+// The buffers that a model is written into.
+#[derive(Drop)]
+struct Buffers {
+    supplies: [i32; 552],
+    from: [u16; 2080],
+    to: [u16; 2080],
+    max: [u32; 2080],
+    cost: [i64; 2080],
+    entries: [u16; 4096],
+    ends: [u16; 2048],
+    blocked: [u16; 4096],
+}
+
+impl Buffers {
+    fn new() -> Buffers {
+        Buffers {
+            supplies: [0; 552],
+            from: [0; 2080],
+            to: [0; 2080],
+            max: [0; 2080],
+            cost: [0; 2080],
+            entries: [0; 4096],
+            ends: [0; 2048],
+            blocked: [0; 4096],
+        }
+    }
 }
 
 // Edges 0 to 5 have 0 1 1 1 1 0, edge 6 has the given value, and edge 7 has 0.
 fn values(edge_six: i32) -> [i32; 2080] {
-    let mut all = [0i32; 2080];
+    let mut all = [0; 2080];
     all[1] = 1;
     all[2] = 1;
     all[3] = 1;
@@ -30,84 +50,28 @@ fn values(edge_six: i32) -> [i32; 2080] {
     all
 }
 
-fn row_of_edge(
-    rt: &HostRuntime,
-    edge: usize,
-    from: u16,
-    to: u16,
-    max: u32,
-    cost: i64,
-) -> io::Result<()> {
-    say_with(rt, "edge ", edge)?;
-    say_with(rt, ": from ", from as usize)?;
-    say_with(rt, " to ", to as usize)?;
-    say_word(rt, ", at most ", max)?;
-    say(rt, ", cost ")?;
-    say_cost(rt, cost)?;
-    say(rt, "\n")
-}
-
-fn rows_of_edges(
-    rt: &HostRuntime,
-    count: usize,
-    from: &[u16; 2080],
-    to: &[u16; 2080],
-    max: &[u32; 2080],
-    cost: &[i64; 2080],
-) -> io::Result<()> {
-    let n = at_most(2080, count);
-    let mut i = 0;
-    while i < n {
-        row_of_edge(rt, i, from[i], to[i], max[i], cost[i])?;
-        i += 1;
+fn rows_of_edges(rt: &HostRuntime, count: usize, b: &Buffers) -> io::Result<()> {
+    for i in 0..count.min(2080) {
+        println!(rt;
+            "edge {i}: from {} to {}, at most {}, cost {}",
+            b.from[i], b.to[i], b.max[i], b.cost[i],
+        )?;
     }
     Ok(())
-}
-
-fn wide(n: u16) -> usize {
-    n as usize
 }
 
 // Each group in braces: its entries go from the last group's end to its own.
-fn say_groups(
-    rt: &HostRuntime,
-    count: usize,
-    entries: &[u16; 4096],
-    ends: &[u16; 2048],
-) -> io::Result<()> {
-    let n = at_most(2048, count);
+fn rows_of_groups(rt: &HostRuntime, model: ModelAnswer, b: &Buffers) -> io::Result<()> {
+    print!(rt; "groups")?;
     let mut start = 0;
-    let mut i = 0;
-    while i < n {
-        let end = wide(ends[i]);
-        say(rt, " {")?;
-        say_numbers(rt, entries, start, end)?;
-        say(rt, " }")?;
+    for end in b.ends.iter().take(model.groups) {
+        let end = *end as usize;
+        let group = Listed(b.entries.get(start..end).unwrap_or(&[]));
+        print!(rt; " {{{group} }}")?;
         start = end;
-        i += 1;
     }
-    Ok(())
-}
-
-fn rows_of_groups(
-    rt: &HostRuntime,
-    model: ModelAnswer,
-    entries: &[u16; 4096],
-    ends: &[u16; 2048],
-    blocked: &[u16; 4096],
-) -> io::Result<()> {
-    say(rt, "groups")?;
-    say_groups(rt, model.groups, entries, ends)?;
-    say(rt, "\nblocked")?;
-    say_numbers(rt, blocked, 0, model.blocked)?;
-    say(rt, "\n")
-}
-
-// A node for each chooser in each slot, each choice and each slot: 9.
-fn row_of_supplies(rt: &HostRuntime, supplies: &[i32; 552]) -> io::Result<()> {
-    say(rt, "supplies")?;
-    say_signed_list(rt, supplies, 9)?;
-    say(rt, "\n")
+    let blocked = Listed(&b.blocked[..model.blocked.min(4096)]);
+    println!(rt; "\nblocked{blocked}")
 }
 
 // The model at limit 1: its supplies and edges, or its groups and blocked edges.
@@ -117,72 +81,55 @@ pub(crate) fn rows_of_model(
     day: &[u8; 2044],
     grouped: bool,
 ) -> io::Result<()> {
-    let mut lists = [0u8; 256];
+    let mut lists = [0; 256];
     let state = built(day, &mut lists);
-    let preferences = preferences();
-    let costs = costs();
-    let mut supplies = [0i32; 552];
-    let mut from = [0u16; 2080];
-    let mut to = [0u16; 2080];
-    let mut max = [0u32; 2080];
-    let mut cost = [0i64; 2080];
-    let mut entries = [0u16; 4096];
-    let mut ends = [0u16; 2048];
-    let mut blocked = [0u16; 4096];
+    let mut b = Buffers::new();
     let model = solve_with_limit::build_model(
         day,
         &state,
         1,
-        &preferences,
-        &costs,
+        &PREFERENCES,
+        &COSTS,
         &lists,
-        &mut supplies,
-        &mut from,
-        &mut to,
-        &mut max,
-        &mut cost,
-        &mut entries,
-        &mut ends,
-        &mut blocked,
+        &mut b.supplies,
+        &mut b.from,
+        &mut b.to,
+        &mut b.max,
+        &mut b.cost,
+        &mut b.entries,
+        &mut b.ends,
+        &mut b.blocked,
     );
-    row_of_outcome(rt, text, model.number)?;
+    println!(rt; "{text}: {}", Outcome(model.number))?;
     if grouped {
-        return rows_of_groups(rt, model, &entries, &ends, &blocked);
+        return rows_of_groups(rt, model, &b);
     }
-    row_of_supplies(rt, &supplies)?;
-    rows_of_edges(rt, model.edges, &from, &to, &max, &cost)
+    // A node for each chooser in each slot, each choice and each slot: 9.
+    println!(rt; "supplies{}", Listed(&b.supplies[..9]))?;
+    rows_of_edges(rt, model.edges, &b)
 }
 
 // The number that these values get at limit 1, and the plan that they decode to.
 fn checked(day: &[u8; 2044], values: &[i32; 2080], plan: &mut [u8; 512]) -> u32 {
-    let mut lists = [0u8; 256];
+    let mut lists = [0; 256];
     let state = built(day, &mut lists);
-    let preferences = preferences();
-    let costs = costs();
-    let mut supplies = [0i32; 552];
-    let mut from = [0u16; 2080];
-    let mut to = [0u16; 2080];
-    let mut max = [0u32; 2080];
-    let mut cost = [0i64; 2080];
-    let mut entries = [0u16; 4096];
-    let mut ends = [0u16; 2048];
-    let mut blocked = [0u16; 4096];
+    let mut b = Buffers::new();
     let model = solve_with_limit::check_values(
         day,
         &state,
         1,
-        &preferences,
-        &costs,
+        &PREFERENCES,
+        &COSTS,
         &lists,
         values,
-        &mut supplies,
-        &mut from,
-        &mut to,
-        &mut max,
-        &mut cost,
-        &mut entries,
-        &mut ends,
-        &mut blocked,
+        &mut b.supplies,
+        &mut b.from,
+        &mut b.to,
+        &mut b.max,
+        &mut b.cost,
+        &mut b.entries,
+        &mut b.ends,
+        &mut b.blocked,
         plan,
     );
     model.number
@@ -194,15 +141,13 @@ fn row_of_score(
     schedule: &[u8; 32],
     plan: &[u8; 512],
 ) -> io::Result<()> {
-    let preferences = preferences();
     let powers = [0.0, 1.0, 8.0];
     let solution = Solution::Complete;
-    let answer = scoring::evaluate(day, solution, schedule, plan, false, &preferences, &powers);
-    say(rt, "score ")?;
-    say_score(rt, answer.score)?;
-    say(rt, ", ")?;
-    say_score_bits(rt, answer.score)?;
-    say(rt, "\n")
+    let answer = scoring::evaluate(day, solution, schedule, plan, false, &PREFERENCES, &powers);
+    let score = answer.score;
+    let major = score::bits(score.major);
+    let minor = score::bits(score.minor);
+    println!(rt; "score {}, bits {major:08x} {minor:08x}", Printed(score))
 }
 
 // The verdicts on the schedule and on a plan, and the plan's score.
@@ -210,40 +155,39 @@ fn rows_of_verdict(rt: &HostRuntime, day: &[u8; 2044], plan: &[u8; 512]) -> io::
     let schedule = schedule_of(0, 0, 1);
     let scheduled = scoring::schedule_is_feasible(day, &schedule);
     let verdict = scoring::is_feasible(day, &schedule, plan);
-    row_of_verdict(rt, "schedule feasible: ", scheduled.holds)?;
-    row_of_verdict(rt, "plan feasible: ", verdict.holds)?;
+    println!(rt; "schedule feasible: {}", yes_or_no(scheduled.holds))?;
+    println!(rt; "plan feasible: {}", yes_or_no(verdict.holds))?;
     row_of_score(rt, day, &schedule, plan)
 }
 
 // What both choosers have, slot by slot, and who has choice 2.
 fn rows_of_plan(rt: &HostRuntime, day: &[u8; 2044], plan: &[u8; 512]) -> io::Result<()> {
-    let mut roster = [0u8; 512];
-    row_of_bytes(rt, "chooser 0: choices", plan, 0, 2)?;
-    row_of_bytes(rt, "chooser 1: choices", plan, 2, 4)?;
+    let mut roster = [0; 512];
+    println!(rt; "chooser 0: choices{}", Listed(&plan[..2]))?;
+    println!(rt; "chooser 1: choices{}", Listed(&plan[2..4]))?;
     let answer = rosters::choosers_ordered(day, plan, 2, &mut roster);
-    row_of_bytes(rt, "choice 2: choosers", &roster, 0, answer.length)
+    println!(rt;
+        "choice 2: choosers{}",
+        Listed(&roster[..answer.length.min(512)])
+    )
 }
 
-fn row_of_values(rt: &HostRuntime, values: &[i32; 2080], number: u32) -> io::Result<()> {
-    say(rt, "values")?;
-    say_signed_list(rt, values, 8)?;
-    row_of_outcome(rt, ": ", number)
+// Values with this one at edge 6, and what the library says of them.
+pub(crate) fn row_of_edge_six(
+    rt: &HostRuntime,
+    day: &[u8; 2044],
+    value: i32,
+    plan: &mut [u8; 512],
+) -> io::Result<()> {
+    let values = values(value);
+    let outcome = Outcome(checked(day, &values, plan));
+    println!(rt; "values{}: {outcome}", Listed(&values[..8]))
 }
 
 // Values that are accepted, and what can be said of their plan.
 pub(crate) fn rows_of_values(rt: &HostRuntime, day: &[u8; 2044]) -> io::Result<()> {
-    let accepted = values(1);
-    let mut plan = [0u8; 512];
-    let number = checked(day, &accepted, &mut plan);
-    row_of_values(rt, &accepted, number)?;
+    let mut plan = [0; 512];
+    row_of_edge_six(rt, day, 1, &mut plan)?;
     rows_of_plan(rt, day, &plan)?;
     rows_of_verdict(rt, day, &plan)
-}
-
-// The same values with another one at edge 6.
-pub(crate) fn row_of_edge_six(rt: &HostRuntime, day: &[u8; 2044], value: i32) -> io::Result<()> {
-    let changed = values(value);
-    let mut plan = [0u8; 512];
-    let number = checked(day, &changed, &mut plan);
-    row_of_values(rt, &changed, number)
 }

@@ -1,7 +1,7 @@
 // The rows on scores and on negation.
-use crate::lines::{say, say_constraint, say_ordering, say_score, say_with, say_word};
+use crate::lines::{Parts, Printed, name_of};
 use constraint::Constraint;
-use score::{BestScore, Score};
+use score::Score;
 use std::io;
 
 // The three scores, each of which is less than the next and the last less than the first.
@@ -35,18 +35,17 @@ pub(crate) fn row_of_zeros(rt: &HostRuntime) -> io::Result<()> {
         major: 1.0,
         minor: 0.0,
     };
-    say(rt, "minor -0.0 before +0.0 with equal majors: ")?;
-    say_ordering(rt, negative.cmp(positive))?;
-    say(rt, "\n")
+    let order = name_of(negative.cmp(positive));
+    println!(rt; "minor -0.0 before +0.0 with equal majors: {order}")
 }
 
 fn row_of_two(rt: &HostRuntime, left: Score, right: Score) -> io::Result<()> {
-    say_score(rt, left)?;
-    say(rt, " < ")?;
-    say_score(rt, right)?;
-    say(rt, ": ")?;
-    say_ordering(rt, left.cmp(right))?;
-    say(rt, "\n")
+    println!(rt;
+        "{} < {}: {}",
+        Printed(left),
+        Printed(right),
+        name_of(left.cmp(right))
+    )
 }
 
 // In a cycle the best hangs on the order: the first is kept until a later one is less.
@@ -54,13 +53,12 @@ pub(crate) fn row_of_best(rt: &HostRuntime) -> io::Result<()> {
     let one = first();
     let two = second();
     let three = third();
-    say(rt, "best of ")?;
-    say_score(rt, one)?;
-    say(rt, ", ")?;
-    say_score(rt, two)?;
-    say(rt, ", ")?;
-    say_score(rt, three)?;
-    say(rt, ": ")?;
+    print!(rt;
+        "best of {}, {}, {}: ",
+        Printed(one),
+        Printed(two),
+        Printed(three)
+    )?;
     let floats = [
         one.major,
         one.minor,
@@ -69,26 +67,26 @@ pub(crate) fn row_of_best(rt: &HostRuntime) -> io::Result<()> {
         three.major,
         three.minor,
     ];
-    let best = score::best(&floats, 3).best;
-    match best {
-        BestScore::None => say(rt, "none")?,
-        BestScore::At(ranked) => {
-            say_with(rt, "position ", ranked.position)?;
-            say(rt, ", score ")?;
-            say_score(rt, ranked.score)?;
+    match score::best(&floats, 3) {
+        Ok(Some(ranked)) => {
+            println!(rt;
+                "position {}, score {}",
+                ranked.position,
+                Printed(ranked.score)
+            )
         }
+        Ok(None) => println!(rt; "none"),
+        Err(refusal) => println!(rt; "refused: {refusal}"),
     }
-    say(rt, "\n")
 }
 
 pub(crate) fn rows_of_negation(rt: &HostRuntime) -> io::Result<()> {
     let limit = Constraint::of(6, 0, 4, 2, 2, -2);
-    say(rt, "size limit Leq: ")?;
-    say_constraint(rt, limit)?;
-    let answer = limit.negation();
-    say_word(rt, "its negation, number ", answer.number)?;
-    say(rt, ": ")?;
-    say_constraint(rt, answer.constraint)
+    println!(rt; "size limit Leq: {}", Parts(limit))?;
+    match limit.negation() {
+        Ok(negated) => println!(rt; "its negation, number 0: {}", Parts(negated)),
+        Err(refusal) => println!(rt; "its negation is refused: {refusal}"),
+    }
 }
 
 // The cycle of three scores: a NaN as a major leaves the minors to decide.

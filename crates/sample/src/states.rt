@@ -1,28 +1,24 @@
 // The rows on schedule states.
 use crate::layouts::{day_of, schedule_of, state_bytes};
-use crate::lines::{row_of_bytes, row_of_outcome, say, say_outcome, say_word};
+use crate::lines::{Listed, Outcome};
 use schedule_state::StateAnswer;
 use std::io;
 
 fn row_of_covered(rt: &HostRuntime, answer: StateAnswer) -> io::Result<()> {
-    let state = answer.state;
-    let covered = state.covered;
-    say_word(rt, "covered ", covered[0])?;
-    say_word(rt, " ", covered[1])?;
-    say(rt, "\n")
+    let covered = answer.state.covered;
+    println!(rt; "covered {} {}", covered[0], covered[1])
 }
 
 // The list of a slot, as the library hands it back.
 fn row_of_list(
     rt: &HostRuntime,
-    text: &str,
     day: &[u8; 2044],
     state: &[u8; 2112],
     lists: &[u8; 256],
     slot: usize,
 ) -> io::Result<()> {
-    let list = schedule_updates::slot_list(day, state, lists, slot);
-    row_of_bytes(rt, text, list, 0, list.len())
+    let list = Listed(schedule_updates::slot_list(day, state, lists, slot));
+    println!(rt; "slot {slot}: choices{list}")
 }
 
 // A state that a call gave, with its slot lists.
@@ -34,8 +30,8 @@ fn rows_of_state(
 ) -> io::Result<()> {
     let state = state_bytes(answer.state);
     row_of_covered(rt, answer)?;
-    row_of_list(rt, "slot 0: choices", day, &state, lists, 0)?;
-    row_of_list(rt, "slot 1: choices", day, &state, lists, 1)
+    row_of_list(rt, day, &state, lists, 0)?;
+    row_of_list(rt, day, &state, lists, 1)
 }
 
 // A fresh build.
@@ -45,9 +41,9 @@ pub(crate) fn rows_of_build(
     day: &[u8; 2044],
     schedule: &[u8; 32],
 ) -> io::Result<()> {
-    let mut lists = [0u8; 256];
+    let mut lists = [0; 256];
     let answer = schedule_updates::build(day, schedule, &mut lists);
-    row_of_outcome(rt, text, answer.number)?;
+    println!(rt; "{text}: {}", Outcome(answer.number))?;
     rows_of_state(rt, day, answer, &lists)
 }
 
@@ -65,24 +61,20 @@ pub(crate) fn rows_of_update(
     day: &[u8; 2044],
     schedule: &[u8; 32],
 ) -> io::Result<()> {
-    let mut lists = [0u8; 256];
+    let mut lists = [0; 256];
     let state = built(day, &mut lists);
     let answer = schedule_updates::update(day, &state, schedule, &mut lists);
-    row_of_outcome(rt, text, answer.number)?;
+    println!(rt; "{text}: {}", Outcome(answer.number))?;
     rows_of_state(rt, day, answer, &lists)
 }
 
 // A refused call gives its number, and zeros beside it.
 pub(crate) fn row_of_refusal(rt: &HostRuntime, day: &[u8; 2044]) -> io::Result<()> {
     let schedule = schedule_of(0, 0, 2);
-    let mut lists = [0u8; 256];
+    let mut lists = [0; 256];
     let answer = schedule_updates::build(day, &schedule, &mut lists);
-    say_outcome(
-        rt,
-        "choice 2 in slot 2, which the day has not: ",
-        answer.number,
-    )?;
-    say(rt, ", ")?;
+    let outcome = Outcome(answer.number);
+    print!(rt; "choice 2 in slot 2, which the day has not: {outcome}, ")?;
     row_of_covered(rt, answer)
 }
 
@@ -95,14 +87,14 @@ fn row_of_limit(
 ) -> io::Result<()> {
     let day = day_of(choosers, max_preference, 0);
     let schedule = schedule_of(0, 0, 1);
-    let mut lists = [0u8; 256];
+    let mut lists = [0; 256];
     let answer = schedule_updates::build(&day, &schedule, &mut lists);
-    row_of_outcome(rt, text, answer.number)
+    println!(rt; "{text}: {}", Outcome(answer.number))
 }
 
 pub(crate) fn rows_of_limits(rt: &HostRuntime) -> io::Result<()> {
-    row_of_limit(rt, "64 choosers: ", 64, 2)?;
-    row_of_limit(rt, "65 choosers: ", 65, 2)?;
-    row_of_limit(rt, "max_preference 255: ", 2, 255)?;
-    row_of_limit(rt, "max_preference 256: ", 2, 256)
+    row_of_limit(rt, "64 choosers", 64, 2)?;
+    row_of_limit(rt, "65 choosers", 65, 2)?;
+    row_of_limit(rt, "max_preference 255", 2, 255)?;
+    row_of_limit(rt, "max_preference 256", 2, 256)
 }

@@ -7,7 +7,7 @@ use Rattle.input_data.specs.Lengths.{full_day}
 use Rattle.input_data.specs.declared.InputData.{InputData}
 use Rattle.scheduling.specs.declared.Scheduling.{Scheduling}
 use Rattle.score.specs.Order.{score_order}
-use Rattle.score.specs.declared.Ordering.TheVariants.{Less}
+use Rattle.std.specs.declared.cmp.Ordering.TheVariants.{Less}
 use Rattle.scoring.specs.Calls.{verdict, plan_answer}
 use Rattle.model_buffers.specs.Answers.{model_refused}
 use Rattle.sample_day.specs.SampleDay.{sample_day, tied_day, at_first, moved, build_gives, build_leaves, move_gives, move_leaves, list_number, slot_list_of, model_gives, model_leaves, values_give, plan_left, score_given, begin_at, answers, last_answer, asks_in, run_of, planned}

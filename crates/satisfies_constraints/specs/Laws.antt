@@ -3,6 +3,8 @@ use Rattle.std.specs.Prelude.{ℕ, zero, suc, ◌+◌, ◌-◌, ◌*◌, ◌<◌
 use Rattle.std.proofs.Common.{sym, ap, ◌∙◌, add-one, arith, eq-eqb, ne_eqb}
 use Rattle.assignment.specs.Laws.{row_end}
 use Rattle.assignment.specs.Plan.{is_scheduled}
+use Rattle.std.specs.Prelude.{Some}
+use Rattle.std.specs.Option.{option_eq}
 use Rattle.counting.specs.FoldLaws.{fold_more}
 use Rattle.counting.specs.Fold.{sum_to, count_to}
 use Rattle.counting.specs.Holds.{is_of}
@@ -12,7 +14,6 @@ use Rattle.input_data.specs.Accepted.{AcceptedList}
 use Rattle.input_data.specs.Bytes.{IsDay, day_of}
 use Rattle.scheduling.specs.Schedule.{entry_at, of_entry, slot_in}
 use Rattle.scheduling.specs.ScheduleLaws.{of_none, of_slot_lem}
-use Rattle.scheduling.specs.declared.SlotOf.{SlotOf}
 use Rattle.satisfies_constraints.specs.Constraints.{has_offset, size_of}
 
 -- a plan has room for so many seats
@@ -48,23 +49,10 @@ sum_more i f p q = rw (fold_more ◌+◌ 0 i f, p, q)
 
 -- ---- entries
 
--- the entry that says so
-abbrev entry_of : SlotOf → ℕ
-entry_of SlotOf.None = 0
-entry_of (SlotOf.Slot s) = suc s
-
-entry_in : (e : ℕ) → entry_of (slot_in e) ≡ e
-entry_in zero = refl
-entry_in (suc s) = refl
-
 -- an entry names slot s
-pub names_none : (e s : ℕ) {r : SlotOf} → r ≡ slot_in e → r ≡ SlotOf.None → false ≡ eqb e (suc s)
-names_none e s p q = let z : e ≡ 0 = sym (entry_in e) ∙ ap entry_of (sym p ∙ q) in sym (ne_eqb e (suc s) (λ w. omega arith))
-
-pub names_slot : (e s t : ℕ) {r : SlotOf} → r ≡ slot_in e → r ≡ SlotOf.Slot t → eqb t s ≡ eqb e (suc s)
-names_slot e s t p q =
-    let z : e ≡ suc t = sym (entry_in e) ∙ ap entry_of (sym p ∙ q) in
-    eq_cases t s (λ w u. u ∙ sym (eq-eqb e (suc s) (omega arith))) (λ w u. u ∙ sym (ne_eqb e (suc s) (λ v. w (omega arith))))
+pub names_slot : (e s : ℕ) → option_eq eqb (slot_in e) (Some s) ≡ eqb e (suc s)
+names_slot zero s = sym (ne_eqb 0 (suc s) (λ z. omega arith))
+names_slot (suc t) s = eq_cases t s (λ w u. u ∙ sym (eq-eqb (suc t) (suc s) (omega arith))) (λ w u. u ∙ sym (ne_eqb (suc t) (suc s) (λ v. w (omega arith))))
 
 -- an offset: left has no slot, right alone has none, both have one
 pub offset_none : (left right : ℕ) (z : ℤ) → left ≡ 0 → eqb right 0 ≡ has_offset left right z

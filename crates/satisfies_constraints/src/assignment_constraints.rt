@@ -1,22 +1,12 @@
 // The assignment constraints of a day, tested on a schedule and a plan.
 ghost use Rattle.std.specs.Prelude.{◌≡◌, ◌+◌, ◌*◌, ◌<◌, ◌≤◌, length};
-ghost use Rattle.counting.specs.Fold.{gate};
 ghost use Rattle.input_data.specs.Bytes.{day_of};
 ghost use Rattle.assignment.specs.Plan.{is_in_choice};
-ghost use Rattle.satisfies_constraints.specs.Constraints.{times_in, same_choosers, same_choices, assignment_in};
+ghost use Rattle.satisfies_constraints.specs.Constraints.{times_in, same_choosers, same_choices, assignment_at, assignment_in};
 ghost use Rattle.satisfies_constraints.specs.ByNumber.{meets_plan, OperandsIn};
 ghost use Rattle.satisfies_constraints.specs.Laws.{InPlan, PlanRead};
 
 use crate::scheduling_constraints::entry_of;
-
-fn once(seated: bool) -> u32
-    ensures { (result ≡ gate seated 1) × (result ≤ 1) }
-{
-    if seated {
-        return 1;
-    }
-    0
-}
 
 // How often a chooser has a choice.
 pub fn times_in(slots: usize, plan: &[u8], chooser: usize, choice: usize) -> u32
@@ -25,10 +15,8 @@ pub fn times_in(slots: usize, plan: &[u8], chooser: usize, choice: usize) -> u32
 {
     let base = chooser * slots;
     let mut times = 0;
-    let mut s = 0;
-    while s < slots {
-        times += once(plan[base + s] as usize == choice);
-        s += 1;
+    for s in 0..slots {
+        times += u32::from(plan[base + s] as usize == choice);
     }
     times
 }
@@ -38,13 +26,10 @@ fn same_choosers(choosers: usize, slots: usize, plan: &[u8], a: usize, b: usize)
     requires { InPlan choosers slots (length plan.now) }
     ensures { result ≡ same_choosers choosers slots plan.now a b }
 {
-    let mut same = true;
-    let mut c = 0;
-    while c < choosers {
-        same = same & (times_in(slots, plan, c, a) == times_in(slots, plan, c, b));
-        c += 1;
-    }
-    same
+    counting::all_below(
+        choosers,
+        |c| times_in(slots, plan, c, a) == times_in(slots, plan, c, b),
+    )
 }
 
 // Whether two choosers have the same choices, each as often.
@@ -59,13 +44,10 @@ fn same_choices(
     requires { InPlan choosers slots (length plan.now) × (a < choosers) × (b < choosers) }
     ensures { result ≡ same_choices choices slots plan.now a b }
 {
-    let mut same = true;
-    let mut k = 0;
-    while k < choices {
-        same = same & (times_in(slots, plan, a, k) == times_in(slots, plan, b, k));
-        k += 1;
-    }
-    same
+    counting::all_below(
+        choices,
+        |k| times_in(slots, plan, a, k) == times_in(slots, plan, b, k),
+    )
 }
 
 // Whether a chooser has a choice in some slot.
@@ -91,19 +73,15 @@ fn meets_plan(
     ensures { result ≡ meets_plan choosers choices slots entries.now plan.now kind left right }
 {
     let scheduled = entry_of(entries, right) != 0;
-    if kind == 65536 {
-        if (entry_of(entries, left) != 0) & scheduled {
-            return same_choosers(choosers, slots, plan, left, right);
+    match kind {
+        65536 => {
+            !((entry_of(entries, left) != 0) & scheduled)
+                || same_choosers(choosers, slots, plan, left, right)
         }
-        return true;
+        65537 => !scheduled | is_in(slots, plan, left, right),
+        65538 => !is_in(slots, plan, left, right),
+        _ => same_choices(choosers, choices, slots, plan, left, right),
     }
-    if kind == 65537 {
-        return !scheduled | is_in(slots, plan, left, right);
-    }
-    if kind == 65538 {
-        return !is_in(slots, plan, left, right);
-    }
-    same_choices(choosers, choices, slots, plan, left, right)
 }
 
 // Whether a plan meets every assignment constraint of the day.
@@ -118,18 +96,18 @@ pub fn assignment_met(
     requires { PlanRead choosers choices slots entries.now plan.now day.now }
     ensures { result ≡ assignment_in choosers choices slots entries.now plan.now (day_of day.now).assignment }
 {
-    let count = input_data::assignment_count(day);
-    let mut met = true;
-    let mut j = 0;
-    while j < count {
-        let c = input_data::numbers_at(day, 1276, j);
-        let left = c.left as usize;
-        let target = c.target as usize;
-        met = met
-            & meets_plan(
+    counting::all_below(
+        input_data::assignment_count(day),
+        |j|
+            requires { j < (day_of day.now).assignment.count × PlanRead choosers choices slots entries.now plan.now day.now }
+            ensures { result ≡ assignment_at choosers choices slots entries.entry.now plan.entry.now (day_of day.entry.now).assignment j }
+        {
+            let c = input_data::numbers_at(day, 1276, j);
+            let left = c.left as usize;
+            let target = c.target as usize;
+            meets_plan(
                 choosers, choices, slots, entries, plan, c.kind, left, target,
-            );
-        j += 1;
-    }
-    met
+            )
+        },
+    )
 }

@@ -1,35 +1,27 @@
 // The scheduling constraints of a day, tested on a schedule.
 ghost use Rattle.std.specs.Prelude.{◌≡◌, suc, ◌<◌, ◌≤◌, length, eqb};
-ghost use Rattle.counting.specs.Fold.{gate, count_to};
+ghost use Rattle.counting.specs.Fold.{count_to};
 ghost use Rattle.counting.specs.Holds.{is_of};
 ghost use Rattle.input_data.specs.Bytes.{day_of};
 ghost use Rattle.scheduling.specs.Schedule.{entry_at};
-ghost use Rattle.satisfies_constraints.specs.Constraints.{apart, has_offset, size_of, scheduling_in};
+ghost use Rattle.satisfies_constraints.specs.Constraints.{apart, has_offset, size_of, scheduling_at, scheduling_in};
 ghost use Rattle.satisfies_constraints.specs.ByNumber.{size_by_number, meets_schedule, SlotLeft};
 ghost use Rattle.satisfies_constraints.specs.Laws.{ScheduleRead};
-
-use scheduling::SlotOf;
 
 // The entry of a choice, or none.
 pub fn entry_of(entries: &[u8; 32], k: usize) -> u8
     requires { length entries.now ≡ 32 }
     ensures { result ≡ entry_at entries.now k }
 {
-    if k < 32 {
-        return entries[k];
-    }
-    0
+    if k < 32 { entries[k] } else { 0 }
 }
 
 // Whether an entry names the slot.
+#[tactic(auto, using(crate::specs::Laws::names_slot))]
 fn names(entry: u8, slot: usize) -> bool
     ensures { result ≡ eqb entry (suc slot) }
 {
-    let named = scheduling::slot_in(entry);
-    match named {
-        SlotOf::None => false,
-        SlotOf::Slot(s) => s == slot,
-    }
+    scheduling::slot_in(entry) == Some(slot)
 }
 
 fn are_apart(a: u8, b: u8) -> bool
@@ -66,25 +58,14 @@ fn has_size(op: i32, count: usize, limit: usize) -> bool
     }
 }
 
-fn counted(names: bool) -> u8
-    ensures { (result ≡ gate names 1) × (result ≤ 1) }
-{
-    if names {
-        return 1;
-    }
-    0
-}
-
 // How many of the first entries are `want`. All is in bytes, so that the walk is quick.
 fn count_entries(choices: usize, entries: &[u8; 32], want: u8) -> u8
     requires { choices ≤ 32 }
     ensures { (result ≡ count_to choices (is_of (entry_at entries.now) want)) × (result ≤ 32) }
 {
     let mut size = 0;
-    let mut k = 0;
-    while k < choices {
-        size += counted(entries[k] == want);
-        k += 1;
+    for k in 0..choices {
+        size += u8::from(entries[k] == want);
     }
     size
 }
@@ -111,22 +92,14 @@ fn meets_schedule(
 {
     let a = entry_of(entries, left);
     let b = entry_of(entries, right);
-    if kind == 1 {
-        return names(a, right);
+    match kind {
+        1 => names(a, right),
+        2 => !names(a, right),
+        3 => a == b,
+        4 => are_apart(a, b),
+        5 => has_offset(a, b, extra),
+        _ => has_size(extra, size_of(choices, entries, left), right),
     }
-    if kind == 2 {
-        return !names(a, right);
-    }
-    if kind == 3 {
-        return a == b;
-    }
-    if kind == 4 {
-        return are_apart(a, b);
-    }
-    if kind == 5 {
-        return has_offset(a, b, extra);
-    }
-    has_size(extra, size_of(choices, entries, left), right)
 }
 
 // Whether a schedule meets every scheduling constraint of the day. The numbers are read where they lie:
@@ -135,15 +108,16 @@ pub fn scheduling_met(choices: usize, entries: &[u8; 32], day: &[u8]) -> bool
     requires { ScheduleRead choices entries.now day.now }
     ensures { result ≡ scheduling_in choices entries.now (day_of day.now).scheduling }
 {
-    let count = input_data::scheduling_count(day);
-    let mut met = true;
-    let mut j = 0;
-    while j < count {
-        let c = input_data::numbers_at(day, 508, j);
-        let left = c.left as usize;
-        let target = c.target as usize;
-        met = met & meets_schedule(choices, entries, c.kind, left, target, c.extra);
-        j += 1;
-    }
-    met
+    counting::all_below(
+        input_data::scheduling_count(day),
+        |j|
+            requires { j < (day_of day.now).scheduling.count × ScheduleRead choices entries.now day.now }
+            ensures { result ≡ scheduling_at choices entries.entry.now (day_of day.entry.now).scheduling j }
+        {
+            let c = input_data::numbers_at(day, 508, j);
+            let left = c.left as usize;
+            let target = c.target as usize;
+            meets_schedule(choices, entries, c.kind, left, target, c.extra)
+        },
+    )
 }

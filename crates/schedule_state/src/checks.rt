@@ -3,17 +3,11 @@ ghost use Rattle.std.specs.Prelude.{◌≡◌, ◌<◌, ◌≤◌, length};
 ghost use Rattle.counting.specs.Fold.{any_to};
 ghost use Rattle.input_data.specs.Bytes.{IsDay, day_of};
 ghost use Rattle.schedule_state.specs.Bytes.{IsState, block_in, state_in};
-ghost use Rattle.schedule_state.specs.State.{unlike, unlike_at, cells_of, misblocked_row, misblocked, misblocked_in, sums_of, miscounted_in, inconsistent};
+ghost use Rattle.schedule_state.specs.State.{unlike_at, cells_of, misblocked_row, misblocked, misblocked_in, sums_of, miscounted_in, inconsistent};
 ghost use Rattle.schedule_state.specs.Good.{Small, Holdable};
 
 use blocks::fill_blocks;
 use input_data::{Limits, flag, word};
-
-fn is_unlike(a: bool, b: bool) -> bool
-    ensures { result ≡ unlike a b }
-{
-    (a & !b) | (!a & b)
-}
 
 // Whether a state's blocks are not those of a table for a chooser, in the day's choices.
 fn row_differs(state: &[u8], right: &[bool; 2048], chooser: usize, choices: usize) -> bool
@@ -21,14 +15,10 @@ fn row_differs(state: &[u8], right: &[bool; 2048], chooser: usize, choices: usiz
     ensures { result ≡ misblocked_row (cells_of right.now) choices (state_in state.now).blocks chooser }
 {
     let base = 32 * chooser;
-    let mut bad = false;
-    let mut k = 0;
-    while k < choices {
+    counting::any_below(choices, |k| {
         let at = base + k;
-        bad = bad | is_unlike(flag(state, 64 + at), right[at]);
-        k += 1;
-    }
-    bad
+        flag(state, 64 + at) != right[at]
+    })
 }
 
 // Whether they differ anywhere. No early exit, so that the walk is quick.
@@ -36,13 +26,7 @@ fn tables_differ(state: &[u8], right: &[bool; 2048]) -> bool
     requires { IsState state.now }
     ensures { result ≡ any_to 2048 (unlike_at (state_in state.now).blocks right.now) }
 {
-    let mut bad = false;
-    let mut p = 0;
-    while p < 2048 {
-        bad = bad | is_unlike(flag(state, 64 + p), right[p]);
-        p += 1;
-    }
-    bad
+    counting::any_below(2048, |p| flag(state, 64 + p) != right[p])
 }
 
 // Whether they differ for one of the day's choosers. Tables that do not differ anywhere, as those
@@ -51,16 +35,8 @@ fn blocks_differ(state: &[u8], right: &[bool; 2048], choosers: usize, choices: u
     requires { IsState state.now × (choosers ≤ 64) × (choices ≤ 32) }
     ensures { result ≡ misblocked (cells_of right.now) choosers choices (state_in state.now).blocks }
 {
-    if !tables_differ(state, right) {
-        return false;
-    }
-    let mut bad = false;
-    let mut c = 0;
-    while c < choosers {
-        bad = bad | row_differs(state, right, c, choices);
-        c += 1;
-    }
-    bad
+    tables_differ(state, right)
+        && counting::any_below(choosers, |c| row_differs(state, right, c, choices))
 }
 
 // Whether anything is blocked in a state.
@@ -68,13 +44,7 @@ fn any_blocked(state: &[u8]) -> bool
     requires { IsState state.now }
     ensures { result ≡ any_to 2048 (block_in state.now) }
 {
-    let mut any = false;
-    let mut p = 0;
-    while p < 2048 {
-        any = any | flag(state, 64 + p);
-        p += 1;
-    }
-    any
+    counting::any_below(2048, |p| flag(state, 64 + p))
 }
 
 // Whether a state's blocks are not those of its schedule. Without assignment constraints nothing is blocked.
@@ -82,10 +52,8 @@ fn is_misblocked(day: &[u8], state: &[u8], entries: &[u8; 32]) -> bool
     requires { IsDay day.now × IsState state.now × Small (day_of day.now) }
     ensures { result ≡ misblocked_in (day_of day.now) entries.now (state_in state.now).blocks }
 {
-    if input_data::assignment_count(day) == 0 {
-        if !any_blocked(state) {
-            return false;
-        }
+    if input_data::assignment_count(day) == 0 && !any_blocked(state) {
+        return false;
     }
     let mut fresh = [false; 2048];
     fill_blocks(&mut fresh, day, entries);
@@ -102,13 +70,7 @@ fn sums_differ(state: &[u8], right: &[u32; 8], slots: usize) -> bool
     requires { IsState state.now × (slots ≤ 8) }
     ensures { result ≡ miscounted_in (sums_of right.now) slots (state_in state.now).covered }
 {
-    let mut bad = false;
-    let mut s = 0;
-    while s < slots {
-        bad = bad | (word(state, 32 + 4 * s) != right[s]);
-        s += 1;
-    }
-    bad
+    counting::any_below(slots, |s| word(state, 32 + 4 * s) != right[s])
 }
 
 // 12: what a state says is held against its own schedule, by its entries and their sums.

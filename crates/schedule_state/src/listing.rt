@@ -16,7 +16,6 @@ pub fn list_front<'a>(lists: &'a [u8], stride: usize, slot: usize, len: usize) -
     requires { (len ≤ stride) × (stride * slot + stride ≤ length lists.now) }
     ensures { PartOf lists.entry (stride * slot) (take len (drop (stride * slot) lists.now)) result }
 {
-    let a = stride * slot;
-    let e = a + len;
-    &lists[a..e]
+    let start = stride * slot;
+    &lists[start..start + len]
 }

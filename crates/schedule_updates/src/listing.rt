@@ -10,7 +10,7 @@ fn refuse(number: u32) -> SlotListAnswer
     ensures { result ≡ list_refused number }
 {
     SlotListAnswer {
-        number: number,
+        number,
         start: 0,
         length: 0,
     }
@@ -69,15 +69,12 @@ pub fn slot_list<'a>(day: &[u8], state: &[u8], lists: &'a [u8], slot: usize) -> 
     ensures { HandsBack full_day day.now state.now slot lists.entry result }
 {
     let a = slot_list_answer(day, state, lists, slot);
-    let start = a.start;
-    let end = start + a.length;
-    &lists[start..end]
+    &lists[a.start..a.start + a.length]
 }
 
 // The number that goes with it.
 pub fn slot_list_number(day: &[u8], state: &[u8], lists: &[u8], slot: usize) -> u32
     ensures { result ≡ slot_list_lent full_day day.now state.now slot lists.now }
 {
-    let a = slot_list_answer(day, state, lists, slot);
-    a.number
+    slot_list_answer(day, state, lists, slot).number
 }

@@ -13,18 +13,17 @@ use schedule_state::{AssignmentScheduleState, StateAnswer, beside, test_state};
 use scheduling::Scheduling;
 
 // A refused call: the number, and zeros.
+#[tactic(auto, unfolding(schedule_state::specs::State::zero_state))]
 fn refuse(number: u32) -> StateAnswer
     ensures { result ≡ state_refused number }
 {
-    let none = Scheduling { entries: [0; 32] };
-    let zero = AssignmentScheduleState {
-        schedule: none,
-        covered: [0; 8],
-        blocks: [false; 2048],
-    };
     StateAnswer {
-        number: number,
-        state: zero,
+        number,
+        state: AssignmentScheduleState {
+            schedule: Scheduling { entries: [0; 32] },
+            covered: [0; 8],
+            blocks: [false; 2048],
+        },
     }
 }
 
@@ -33,17 +32,13 @@ fn made(day: &[u8], entries: &[u8; 32], covered: [u32; 8]) -> StateAnswer
     requires { IsDay day.now × Blocking (day_of day.now).assignment }
     ensures { result ≡ made_of (day_of day.now) entries.now covered }
 {
-    let schedule = Scheduling { entries: *entries };
     let mut state = AssignmentScheduleState {
-        schedule: schedule,
-        covered: covered,
+        schedule: Scheduling { entries: *entries },
+        covered,
         blocks: [false; 2048],
     };
     fill_blocks(&mut state.blocks, day, entries);
-    StateAnswer {
-        number: 0,
-        state: state,
-    }
+    StateAnswer { number: 0, state }
 }
 
 // Moves the lists from one schedule to the next, whose state is the answer. The sums are those of the first.
@@ -71,10 +66,8 @@ fn names_outside(day: &[u8], schedule: &[u8]) -> bool
     requires { IsDay day.now }
     ensures { result ≡ names_outside (day_of day.now) schedule.now }
 {
-    if schedule.len() != 32 {
-        return false;
-    }
-    scheduling::bad_slots(input_data::choices(day), input_data::slots(day), schedule)
+    schedule.len() == 32
+        && scheduling::bad_slots(input_data::choices(day), input_data::slots(day), schedule)
 }
 
 fn build_number(limits: Limits, day: &[u8], schedule: &[u8], size: usize) -> u32

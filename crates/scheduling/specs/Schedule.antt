@@ -1,8 +1,6 @@
 -- A schedule by its entries: 0 is none, s + 1 is slot s. SPEC 1.4, 2.7, 2.12, 3.11. Definitions only.
-use Rattle.std.specs.Prelude.{ℕ, zero, suc, Bool, List, ltb, get_or}
+use Rattle.std.specs.Prelude.{ℕ, zero, suc, Bool, List, ltb, get_or, Option, None, Some}
 use Rattle.counting.specs.Fold.{gate, table_to, some_below}
-use Rattle.scheduling.specs.declared.SlotOf.{SlotOf}
-use Rattle.scheduling.specs.declared.SlotOf.TheVariants.{None, Slot}
 
 -- the entry of choice k
 abbrev pub entry_at : List ℕ → ℕ → ℕ
@@ -15,8 +13,8 @@ module _ {ℓ} {A : Type ℓ} where
   of_entry (suc s) none slot = slot s
 
 -- the slot that an entry names, if it names one
-abbrev pub slot_in : ℕ → SlotOf
-slot_in e = of_entry e None Slot
+abbrev pub slot_in : ℕ → Option ℕ
+slot_in e = of_entry e None Some
 
 -- 11. a slot at or above the day's count, in an entry of the day's choices
 abbrev pub bad_entry : ℕ → ℕ → Bool

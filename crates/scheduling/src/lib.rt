@@ -2,39 +2,26 @@
 #![tactic(auto)]
 
 ghost use Rattle.std.specs.Prelude.{true, ◌&&◌, ◌≡◌, length};
-ghost use Rattle.scheduling.specs.Schedule.{slot_in, bad_entry, bad_slots, kept};
+ghost use Rattle.scheduling.specs.Schedule.{slot_in, bad_slots, kept};
 
-use counting::at_most;
+use counting::{any_of, front};
 
 // A schedule gives each choice one slot or none: an entry is 0 for none, and s + 1 for slot s.
 // Entries past the day's choices are ignored.
 #[repr(C)]
-#[derive(Clone, Copy)]
+#[derive(Clone, Copy, Debug)]
 pub struct Scheduling {
     pub entries: [u8; 32],
 }
 
-// What an entry says: the Rust's Option.
-#[derive(Clone, Copy)]
-pub enum SlotOf {
-    None,
-    Slot(usize),
-}
-
 // The slot that an entry names, or none.
-pub fn slot_in(entry: u8) -> SlotOf
+pub fn slot_in(entry: u8) -> Option<usize>
     ensures { result ≡ slot_in entry }
 {
     if entry == 0 {
-        return SlotOf::None;
+        return None;
     }
-    SlotOf::Slot(entry as usize - 1)
-}
-
-fn bad_entry(slots: usize, entry: u8) -> bool
-    ensures { result ≡ bad_entry slots entry }
-{
-    slots < entry as usize
+    Some(entry as usize - 1)
 }
 
 // 11. A schedule names a slot that the day has not.
@@ -42,14 +29,7 @@ pub fn bad_slots(choices: usize, slots: usize, entries: &[u8]) -> bool
     requires { length entries.now ≡ 32 }
     ensures { result ≡ bad_slots choices slots entries.now }
 {
-    let n = at_most(32, choices);
-    let mut bad = false;
-    let mut i = 0;
-    while i < n {
-        bad = bad | bad_entry(slots, entries[i]);
-        i += 1;
-    }
-    bad
+    any_of::<32, _>(choices, |i| slots < entries[i] as usize)
 }
 
 // The same of a schedule that is there.
@@ -57,10 +37,7 @@ pub fn bad_slots_if(there: bool, choices: usize, slots: usize, entries: &[u8]) -
     requires { there ≡ true → length entries.now ≡ 32 }
     ensures { result ≡ (there && bad_slots choices slots entries.now) }
 {
-    if there {
-        return bad_slots(choices, slots, entries);
-    }
-    false
+    there && bad_slots(choices, slots, entries)
 }
 
 // The schedule as it is handed back: none past the day's choices.
@@ -68,12 +45,5 @@ pub fn kept(choices: usize, entries: &[u8]) -> [u8; 32]
     requires { length entries.now ≡ 32 }
     ensures { result ≡ kept choices entries.now }
 {
-    let n = at_most(32, choices);
-    let mut out = [0u8; 32];
-    let mut i = 0;
-    while i < n {
-        out[i] = entries[i];
-        i += 1;
-    }
-    out
+    front(entries, choices)
 }

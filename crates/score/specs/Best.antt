@@ -1,12 +1,9 @@
 -- The best of a list of scores: SPEC 11.10. Definitions only.
-use Rattle.std.specs.Prelude.{ℕ, zero, suc, cond, List, ltb, get_or}
+use Rattle.std.specs.Prelude.{ℕ, zero, suc, cond, List, ltb, get_or, Option, None, Some}
 use Rattle.std.specs.Float.{nan}
 use Rattle.counting.specs.Fold.{fold_to}
 use Rattle.score.specs.declared.Score.{Score}
 use Rattle.score.specs.declared.Ranked.{Ranked}
-use Rattle.score.specs.declared.BestScore.{BestScore}
-use Rattle.score.specs.declared.BestScore.TheVariants.{None, At}
-use Rattle.score.specs.declared.BestAnswer.{BestAnswer}
 use Rattle.score.specs.Order.{score_order, is_less}
 
 -- what the logic reads past a list's end; no answer depends on it
@@ -34,12 +31,17 @@ unfolding better_of fold_to
 best_to scores n = fold_to better_of (ranked_at scores 0) n (later_at scores)
 
 -- an empty list has none
-unfoldable pub best_among : List Score → ℕ → BestScore
+unfoldable pub best_among : List Score → ℕ → Option Ranked
 unfolding best_to
 best_among scores zero = None
-best_among scores (suc n) = At (best_to scores n)
+best_among scores (suc n) = Some (best_to scores n)
 
-abbrev pub best_answer : ℕ → BestScore → BestAnswer
+-- the number of an answer, and the best; none where it is refused
+pub record BestAnswer : Type 0 where
+  pub number : ℕ
+  pub best : Option Ranked
+
+abbrev pub best_answer : ℕ → Option Ranked → BestAnswer
 best_answer n b = record { number = n; best = b }
 
 abbrev pub best_refused : ℕ → BestAnswer

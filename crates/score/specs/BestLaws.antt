@@ -1,10 +1,9 @@
 -- Laws of the best of a list of scores. Assumes nothing.
-use Rattle.std.specs.Prelude.{ℕ, zero, suc, ◌+◌, ◌≤◌, ◌≡◌, refl, List}
+use Rattle.std.specs.Prelude.{ℕ, zero, suc, ◌+◌, ◌≤◌, ◌≡◌, refl, List, Some}
 use Rattle.std.proofs.Common.{le_refl, add-one, arith, le-ltb}
 use Rattle.counting.specs.Tests.{bool_cases}
 use Rattle.score.specs.declared.Score.{Score}
 use Rattle.score.specs.declared.Ranked.{Ranked}
-use Rattle.score.specs.declared.BestScore.TheVariants.{At}
 use Rattle.score.specs.Order.{score_order, is_less}
 use Rattle.score.specs.Best.{ranked_at, later_at, better_of, best_to, best_answer, best_refused, best_of}
 
@@ -22,7 +21,7 @@ pub best_later : (scores : List Score) (n : ℕ) → best_to scores (n + 1) ≡ 
 unfolding best_to
 best_later scores n = rw add-one
 
-pub best_done : (scores : List Score) (count n : ℕ) → count ≤ 64 → n + 1 ≡ count → best_of scores count ≡ best_answer 0 (At (best_to scores n))
+pub best_done : (scores : List Score) (count n : ℕ) → count ≤ 64 → n + 1 ≡ count → best_of scores count ≡ best_answer 0 (Some (best_to scores n))
 unfolding best_of
 best_done scores count n h e = rw (le-ltb 64 count h, ← e, add-one)
 

@@ -4,9 +4,10 @@ pub mod BitOrder
 pub mod Magnitude
 pub mod TotalOrderLaws
 pub mod Order
-pub mod Before
+pub mod TotalCmp
 pub mod Best
 pub mod BestLaws
 pub mod Listed
 pub mod ListedLaws
 pub mod Sample
+pub mod Answered

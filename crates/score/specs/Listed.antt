@@ -3,8 +3,7 @@ use Rattle.std.specs.Prelude.{ℕ, ◌+◌, ◌*◌, cond, not, List, eqb, ltb, 
 use Rattle.std.specs.Float.{nan}
 use Rattle.counting.specs.Fold.{table_to}
 use Rattle.score.specs.declared.Score.{Score}
-use Rattle.score.specs.declared.BestAnswer.{BestAnswer}
-use Rattle.score.specs.Best.{best_of, best_refused}
+use Rattle.score.specs.Best.{BestAnswer, best_of, best_refused}
 
 -- the score at a place of a list of floats: major, minor, major, minor, ..
 abbrev pub score_at : List Float → ℕ → Score

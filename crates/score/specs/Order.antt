@@ -4,8 +4,8 @@ use Rattle.std.specs.Float.{inf}
 use Rattle.std.specs.Float.Ieee.{is_nan}
 use Rattle.std.specs.Float.Ieee.Scale.{finite}
 use Rattle.score.specs.declared.Score.{Score}
-use Rattle.score.specs.declared.Ordering.{Ordering}
-use Rattle.score.specs.declared.Ordering.TheVariants.{Less, Equal, Greater}
+use Rattle.std.specs.declared.cmp.Ordering.{Ordering}
+use Rattle.std.specs.declared.cmp.Ordering.TheVariants.{Less, Equal, Greater}
 use Rattle.score.specs.TotalOrder.{total_compare}
 
 -- infinite twice

@@ -3,7 +3,7 @@ use Rattle.std.specs.Prelude.{◌≡◌, refl, true, false, pos, Float}
 use Rattle.std.specs.Float.{nan, fin}
 use Rattle.std.specs.Float.Ieee.{lt, is_nan}
 use Rattle.score.specs.declared.Score.{Score}
-use Rattle.score.specs.declared.Ordering.TheVariants.{Less}
+use Rattle.std.specs.declared.cmp.Ordering.TheVariants.{Less}
 use Rattle.score.specs.Order.{score_order}
 
 abbrev score : Float → Float → Score

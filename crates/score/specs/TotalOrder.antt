@@ -3,8 +3,8 @@
 use Rattle.std.specs.Prelude.{Bool, true, false, cond, not, ◌&&◌, zero, suc, Float}
 use Rattle.std.specs.Float.{nan, inf, fin}
 use Rattle.std.specs.Float.Ieee.{lt, is_nan}
-use Rattle.score.specs.declared.Ordering.{Ordering}
-use Rattle.score.specs.declared.Ordering.TheVariants.{Less, Equal, Greater}
+use Rattle.std.specs.declared.cmp.Ordering.{Ordering}
+use Rattle.std.specs.declared.cmp.Ordering.TheVariants.{Less, Equal, Greater}
 
 -- -0 and +0
 abbrev pub neg_zero : Float → Bool

@@ -2,7 +2,7 @@
 ghost use Rattle.std.specs.Prelude.{◌≡◌};
 ghost use Rattle.input_data.specs.Bytes.{day_of, wider};
 ghost use Rattle.input_data.specs.Lengths.{Within, full_day};
-ghost use Rattle.scoring.specs.Calls.{beside_tables, zero_score, score_answer, evaluate_lent_number, evaluate_lent};
+ghost use Rattle.scoring.specs.Calls.{beside_tables, zero_score, evaluate_lent_number, evaluate_lent};
 ghost use Rattle.scoring.specs.Laws.{Multiplied};
 
 use crate::ScoreAnswer;
@@ -59,10 +59,9 @@ fn evaluate_number(
     if day.len() != 2044 {
         return 2;
     }
-    let choosers = input_data::choosers(day);
     if input_data::too_many(
         limits,
-        choosers,
+        input_data::choosers(day),
         input_data::choices(day),
         input_data::slots(day),
     ) {
@@ -77,15 +76,6 @@ fn evaluate_number(
         return number;
     }
     feasibility::parts_number(scheduled, there, day, schedule, plan)
-}
-
-fn answer(number: u32, s: Score) -> ScoreAnswer
-    ensures { result ≡ score_answer number s }
-{
-    ScoreAnswer {
-        number: number,
-        score: s,
-    }
 }
 
 fn no_score() -> Score
@@ -113,16 +103,22 @@ fn evaluate_within(
     let size = powers.len();
     let number = evaluate_number(limits, day, solution, schedule, plan, preferences, size);
     if number != 0 {
-        return answer(number, no_score());
+        return ScoreAnswer {
+            number,
+            score: no_score(),
+        };
     }
     if solution.has_plan() {
         let entries = scheduling::kept(input_data::choices(day), schedule);
-        return answer(
-            0,
-            plan_score::evaluate_plan(day, greedy, preferences, powers, &entries, plan),
-        );
+        return ScoreAnswer {
+            number,
+            score: plan_score::evaluate_plan(day, greedy, preferences, powers, &entries, plan),
+        };
     }
-    answer(0, Score::infinite())
+    ScoreAnswer {
+        number,
+        score: Score::infinite(),
+    }
 }
 
 // The score of a solution. What has no plan scores infinite twice.
@@ -137,9 +133,8 @@ pub fn evaluate(
 ) -> ScoreAnswer
     ensures { result ≡ evaluate_lent full_day day.now solution schedule.now plan.now greedy preferences.now powers.now }
 {
-    let limits = input_data::full_day();
     evaluate_within(
-        limits,
+        input_data::full_day(),
         day,
         solution,
         schedule,

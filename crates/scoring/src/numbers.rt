@@ -1,19 +1,9 @@
 // The numbers of the verdict's calls, and their answers.
 ghost use Rattle.std.specs.Prelude.{◌≡◌};
 ghost use Rattle.input_data.specs.Lengths.{Within};
-ghost use Rattle.scoring.specs.Calls.{verdict, schedule_lent_number, verdict_lent_number};
+ghost use Rattle.scoring.specs.Calls.{schedule_lent_number, verdict_lent_number};
 
-use crate::VerdictAnswer;
 use input_data::{Beside, Limits};
-
-pub fn answer(number: u32, holds: bool) -> VerdictAnswer
-    ensures { result ≡ verdict number holds }
-{
-    VerdictAnswer {
-        number: number,
-        holds: holds,
-    }
-}
 
 pub fn schedule_number(limits: Limits, day: &[u8], schedule: &[u8]) -> u32
     ensures { result ≡ schedule_lent_number limits day.now schedule.now }

@@ -4,7 +4,7 @@ ghost use Rattle.input_data.specs.Lengths.{Within, full_day};
 ghost use Rattle.scoring.specs.Calls.{assignment_lent, plan_lent};
 
 use crate::VerdictAnswer;
-use crate::numbers::{answer, verdict_number};
+use crate::numbers::verdict_number;
 use input_data::Limits;
 
 fn assignment_within(limits: Limits, day: &[u8], schedule: &[u8], plan: &[u8]) -> VerdictAnswer
@@ -13,10 +13,16 @@ fn assignment_within(limits: Limits, day: &[u8], schedule: &[u8], plan: &[u8]) -
 {
     let number = verdict_number(limits, day, schedule, plan);
     if number != 0 {
-        return answer(number, false);
+        return VerdictAnswer {
+            number,
+            holds: false,
+        };
     }
     let entries = scheduling::kept(input_data::choices(day), schedule);
-    answer(0, feasibility::assignment_holds(day, &entries, plan))
+    VerdictAnswer {
+        number,
+        holds: feasibility::assignment_holds(day, &entries, plan),
+    }
 }
 
 // Whether the plan meets every assignment constraint of the day.
@@ -32,10 +38,16 @@ fn plan_within(limits: Limits, day: &[u8], schedule: &[u8], plan: &[u8]) -> Verd
 {
     let number = verdict_number(limits, day, schedule, plan);
     if number != 0 {
-        return answer(number, false);
+        return VerdictAnswer {
+            number,
+            holds: false,
+        };
     }
     let entries = scheduling::kept(input_data::choices(day), schedule);
-    answer(0, feasibility::plan_holds(day, &entries, plan))
+    VerdictAnswer {
+        number,
+        holds: feasibility::plan_holds(day, &entries, plan),
+    }
 }
 
 // Scoring::is_feasible.

@@ -4,7 +4,7 @@ ghost use Rattle.input_data.specs.Lengths.{Within, full_day};
 ghost use Rattle.scoring.specs.Calls.{scheduling_lent, schedule_lent};
 
 use crate::VerdictAnswer;
-use crate::numbers::{answer, schedule_number};
+use crate::numbers::schedule_number;
 use input_data::Limits;
 
 fn scheduling_within(limits: Limits, day: &[u8], schedule: &[u8]) -> VerdictAnswer
@@ -13,14 +13,17 @@ fn scheduling_within(limits: Limits, day: &[u8], schedule: &[u8]) -> VerdictAnsw
 {
     let number = schedule_number(limits, day, schedule);
     if number != 0 {
-        return answer(number, false);
+        return VerdictAnswer {
+            number,
+            holds: false,
+        };
     }
     let choices = input_data::choices(day);
     let entries = scheduling::kept(choices, schedule);
-    answer(
-        0,
-        satisfies_constraints::scheduling_met(choices, &entries, day),
-    )
+    VerdictAnswer {
+        number,
+        holds: satisfies_constraints::scheduling_met(choices, &entries, day),
+    }
 }
 
 // Whether the schedule meets every scheduling constraint of the day.
@@ -36,10 +39,16 @@ fn schedule_within(limits: Limits, day: &[u8], schedule: &[u8]) -> VerdictAnswer
 {
     let number = schedule_number(limits, day, schedule);
     if number != 0 {
-        return answer(number, false);
+        return VerdictAnswer {
+            number,
+            holds: false,
+        };
     }
     let entries = scheduling::kept(input_data::choices(day), schedule);
-    answer(0, feasibility::schedule_holds(day, &entries))
+    VerdictAnswer {
+        number,
+        holds: feasibility::schedule_holds(day, &entries),
+    }
 }
 
 // Scheduling::is_feasible.

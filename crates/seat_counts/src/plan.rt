@@ -1,7 +1,7 @@
 // The seats of a plan: no chooser in a slot twice, and every scheduled choice filled.
 ghost use Rattle.std.specs.Prelude.{◌≡◌, false, replicate, ◌≤◌};
 ghost use Rattle.scheduling.specs.Schedule.{entry_at};
-ghost use Rattle.seat_counts.specs.Seats.{once_each, none_twice, filled_by, all_filled};
+ghost use Rattle.seat_counts.specs.Seats.{once_each, none_twice, all_filled};
 ghost use Rattle.seat_counts.specs.Laws.{RowSeated, Seated, Choices, Parts};
 
 // Sets a mark for each seat of a chooser. Whether no slot was marked twice.
@@ -17,12 +17,10 @@ fn mark_row(
 {
     let base = chooser * slots;
     let mut once = true;
-    let mut s = 0;
-    while s < slots {
+    for s in 0..slots {
         let slot = (entries[plan[base + s] as usize] - 1) as usize;
-        once = once & !marks[slot];
+        once &= !marks[slot];
         marks[slot] = true;
-        s += 1;
     }
     once
 }
@@ -34,10 +32,8 @@ pub fn none_twice(choosers: usize, slots: usize, entries: &[u8; 32], plan: &[u8]
 {
     let mut marks = [[false; 8]; 64];
     let mut once = true;
-    let mut c = 0;
-    while c < choosers {
-        once = once & mark_row(&mut marks[c], slots, entries, plan, c);
-        c += 1;
+    for c in 0..choosers {
+        once &= mark_row(&mut marks[c], slots, entries, plan, c);
     }
     once
 }
@@ -48,19 +44,10 @@ pub fn part_counts(seats: usize, plan: &[u8]) -> [u32; 32]
     ensures { Parts seats plan.now result }
 {
     let mut counts = [0u32; 32];
-    let mut i = 0;
-    while i < seats {
-        let k = plan[i] as usize;
-        counts[k] = counts[k] + 1;
-        i += 1;
+    for i in 0..seats {
+        counts[plan[i] as usize] += 1;
     }
     counts
-}
-
-fn is_filled(scheduled: bool, min: u32, max: u32, count: u32) -> bool
-    ensures { result ≡ filled_by scheduled min max count }
-{
-    !scheduled | ((min <= count) & (count <= max))
 }
 
 // Whether every scheduled choice has from min to max seats.
@@ -74,11 +61,7 @@ pub fn all_filled<'a>(
     requires { choices ≤ 32 }
     ensures { result ≡ all_filled choices entries.now mins.now maxs.now (entry_at counts.now) }
 {
-    let mut filled = true;
-    let mut k = 0;
-    while k < choices {
-        filled = filled & is_filled(entries[k] != 0, mins[k], maxs[k], counts[k]);
-        k += 1;
-    }
-    filled
+    counting::all_below(choices, |k| {
+        (entries[k] == 0) | ((mins[k] <= counts[k]) & (counts[k] <= maxs[k]))
+    })
 }

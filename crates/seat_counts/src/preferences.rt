@@ -1,16 +1,21 @@
 // The preferences that a plan uses: the greatest, how often each is used, and the minor of the score.
-ghost use Rattle.std.specs.Prelude.{◌≡◌, ◌<◌, ◌≤◌, max, length};
+ghost use Rattle.std.specs.Prelude.{◌≡◌, ◌<◌, ◌≤◌, max, length, ℕ};
+ghost use Rattle.counting.specs.Calls.{TakesBelow, AgreesBelow};
+ghost use Rattle.counting.specs.Fold.{fold_to};
 ghost use Rattle.scheduling.specs.Schedule.{entry_at};
 ghost use Rattle.seat_counts.specs.Preferences.{preference_at, greatest_row, greatest, uses_in, uses, scaling_of, weighted_by, minor_of};
 ghost use Rattle.seat_counts.specs.Laws.{Reading, Counting, Added, UsesHeld, Weighing};
 
-fn greater(a: u32, b: u32) -> u32
-    ensures { result ≡ max a b }
+// The greatest of f 0, f 1, .., f (n - 1), and 0 where there is none.
+fn greatest_of<F: Fn(usize) -> u32>(n: usize, f: F) -> u32
+    requires { TakesBelow (F.pre f) n }
+    ensures { (of : ℕ → ℕ) → AgreesBelow (F.post f) n of → result ≡ fold_to max 0 n of }
 {
-    if a < b {
-        return b;
+    let mut most = 0;
+    for k in 0..n {
+        most = most.max(f(k));
     }
-    a
+    most
 }
 
 // The preference of a chooser's seat in a column.
@@ -42,14 +47,10 @@ fn greatest_row(
     requires { Reading choosers choices slots preferences.now plan.now × (chooser < choosers) }
     ensures { result ≡ greatest_row choices slots preferences.now plan.now chooser }
 {
-    let mut most = 0;
-    let mut s = 0;
-    while s < slots {
-        let p = preference_at(choosers, choices, slots, preferences, plan, chooser, s);
-        most = greater(most, p);
-        s += 1;
-    }
-    most
+    greatest_of(
+        slots,
+        |s| preference_at(choosers, choices, slots, preferences, plan, chooser, s),
+    )
 }
 
 // The greatest preference that is used, 0 without seats.
@@ -63,14 +64,10 @@ pub fn greatest_preference(
     requires { Reading choosers choices slots preferences.now plan.now }
     ensures { result ≡ greatest choosers choices slots preferences.now plan.now }
 {
-    let mut most = 0;
-    let mut c = 0;
-    while c < choosers {
-        let row = greatest_row(choosers, choices, slots, preferences, plan, c);
-        most = greater(most, row);
-        c += 1;
-    }
-    most
+    greatest_of(
+        choosers,
+        |c| greatest_row(choosers, choices, slots, preferences, plan, c),
+    )
 }
 
 // Counts the preferences that a chooser has.
@@ -86,11 +83,9 @@ fn count_row(
     requires { Reading choosers choices slots preferences.now plan.now × Counting choosers chooser counts.old }
     ensures { Added (uses_in choices slots preferences.now plan.now chooser) counts.old counts.new }
 {
-    let mut s = 0;
-    while s < slots {
-        let p = preference_at(choosers, choices, slots, preferences, plan, chooser, s) as usize;
-        counts[p] = counts[p] + 1;
-        s += 1;
+    for s in 0..slots {
+        let p = preference_at(choosers, choices, slots, preferences, plan, chooser, s);
+        counts[p as usize] += 1;
     }
 }
 
@@ -106,10 +101,8 @@ pub fn count_preferences(
     ensures { UsesHeld (uses choosers choices slots preferences.now plan.now) result }
 {
     let mut counts = [0u32; 256];
-    let mut c = 0;
-    while c < choosers {
+    for c in 0..choosers {
         count_row(&mut counts, choosers, choices, slots, preferences, plan, c);
-        c += 1;
     }
     counts
 }
@@ -119,10 +112,7 @@ fn scaling(powers: &[f32], most: usize) -> f32
     requires { most < length powers.now }
     ensures { result ≡ scaling_of most powers.now }
 {
-    if most == 0 {
-        return 1.0;
-    }
-    powers[most]
+    if most == 0 { 1.0 } else { powers[most] }
 }
 
 // (count × power) / scaling. A count of 0 is not left out: 0 × ∞ is NaN.
@@ -139,11 +129,9 @@ pub fn minor(counts: &[u32; 256], powers: &[f32], most: usize) -> f32
     ensures { result ≡ minor_of (entry_at counts.now) powers.now most }
 {
     let by = scaling(powers, most);
-    let mut sum: f32 = 0.0;
-    let mut p = 0;
-    while p <= most {
-        sum = sum + term(counts[p], powers[p], by);
-        p += 1;
+    let mut sum = 0.0;
+    for p in 0..most + 1 {
+        sum += term(counts[p], powers[p], by);
     }
     sum
 }

@@ -1,9 +1,8 @@
 -- The negation's answer in numbers: SPEC 2.14, 4.8. Definitions only.
 use Rattle.std.specs.Prelude.{ℕ, cond, ℤ}
-use Rattle.constraint.specs.declared.NegationAnswer.{NegationAnswer}
 use Rattle.constraint.specs.Kind.{kind_number}
 use Rattle.constraint.specs.Cases.{case_of_target, target_operand, case_of_extra, extra_operand}
-use Rattle.constraint.specs.Negation.{negation_refused}
+use Rattle.constraint.specs.Negation.{NegationAnswer, negation_refused}
 use Rattle.constraint.specs.Numbers.{is_target}
 use Rattle.seating.specs.declared.constraints.NegationNumbers.{NegationNumbers}
 

@@ -1,11 +1,10 @@
 -- Scores in numbers: SPEC 2.16, 11.10. Definitions only.
-use Rattle.std.specs.Prelude.{ℕ, Float}
+use Rattle.std.specs.Prelude.{ℕ, Option, None, Some, Float}
 use Rattle.std.specs.Float.{binary32}
 use Rattle.std.specs.Float.Ieee.{to_bits}
 use Rattle.score.specs.declared.Score.{Score}
-use Rattle.score.specs.declared.BestScore.{BestScore}
-use Rattle.score.specs.declared.BestScore.TheVariants.{None, At}
-use Rattle.score.specs.declared.BestAnswer.{BestAnswer}
+use Rattle.score.specs.declared.Ranked.{Ranked}
+use Rattle.score.specs.Best.{BestAnswer}
 pub use Rattle.score.specs.Listed.{best_in}
 use Rattle.seating.specs.declared.scores.ScoreBits.{ScoreBits}
 use Rattle.seating.specs.declared.scores.BestBits.{BestBits}
@@ -24,9 +23,9 @@ abbrev pub refused_bits : ℕ → BestBits
 refused_bits n = record { number = n; found = 0; position = 0; score = no_bits }
 
 -- number and values of each case
-abbrev pub found_bits : ℕ → BestScore → BestBits
+abbrev pub found_bits : ℕ → Option Ranked → BestBits
 found_bits n None = refused_bits n
-found_bits n (At r) = record { number = n; found = 1; position = r.position; score = score_bits r.score }
+found_bits n (Some r) = record { number = n; found = 1; position = r.position; score = score_bits r.score }
 
 abbrev pub best_bits : BestAnswer → BestBits
 best_bits a = found_bits a.number a.best

@@ -1,11 +1,10 @@
 -- The place of the best is below 64. Assumes nothing.
-use Rattle.std.specs.Prelude.{ℕ, zero, suc, ◌*◌, ◌<◌, ◌≤◌, List, length, Float}
+use Rattle.std.specs.Prelude.{ℕ, zero, suc, ◌*◌, ◌<◌, ◌≤◌, List, length, Option, None, Some, Float}
 use Rattle.std.proofs.Common.{arith}
 use Rattle.counting.specs.Tests.{eq_cases, lt_cases}
 use Rattle.score.specs.declared.Score.{Score}
-use Rattle.score.specs.declared.BestScore.{BestScore}
-use Rattle.score.specs.declared.BestScore.TheVariants.{None, At}
-use Rattle.score.specs.declared.BestAnswer.{BestAnswer}
+use Rattle.score.specs.declared.Ranked.{Ranked}
+use Rattle.score.specs.Best.{BestAnswer}
 use Rattle.score.specs.Best.{best_among, best_of}
 use Rattle.score.specs.BestLaws.{best_place}
 use Rattle.score.specs.Listed.{scores_in}
@@ -13,9 +12,9 @@ use Rattle.score.specs.ListedLaws.{in_many, in_uneven, in_order_lem}
 pub use Rattle.score.specs.Listed.{best_in}
 
 -- the place of the best is below 64
-abbrev pub near_place : BestScore → Type 0
+abbrev pub near_place : Option Ranked → Type 0
 near_place None = Unit {0}
-near_place (At r) = r.position < 64
+near_place (Some r) = r.position < 64
 
 pub record Near (a : BestAnswer) : Type 0 where
   pub place : near_place a.best

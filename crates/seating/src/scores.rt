@@ -2,20 +2,22 @@
 ghost use Rattle.std.specs.Prelude.{◌≡◌};
 ghost use Rattle.score.specs.Order.{infinite_twice, finite_score, score_order, order_number};
 ghost use Rattle.score.specs.Listed.{best_in};
-ghost use Rattle.seating.specs.Scores.{score, score_bits, refused_bits, best_bits};
+ghost use Rattle.score.specs.Answered.{best_answered};
+ghost use Rattle.seating.specs.Scores.{score, score_bits, best_bits};
 ghost use Rattle.seating.specs.ScoresLaws.{Near};
 
-use score::{BestAnswer, BestScore, Score};
+use refusal::Refusal;
+use score::{Ranked, Score};
 
 #[repr(C)]
-#[derive(Clone, Copy)]
+#[derive(Clone, Copy, Debug)]
 pub struct ScoreBits {
     pub major: u32,
     pub minor: u32,
 }
 
 #[repr(C)]
-#[derive(Clone, Copy)]
+#[derive(Clone, Copy, Debug)]
 pub struct BestBits {
     pub number: u32,
     pub found: u32,
@@ -32,27 +34,11 @@ pub fn bits_of(s: Score) -> ScoreBits
     }
 }
 
-fn refuse(number: u32) -> BestBits
-    ensures { result ≡ refused_bits number }
-{
-    let none = ScoreBits { major: 0, minor: 0 };
-    BestBits {
-        number: number,
-        found: 0,
-        position: 0,
-        score: none,
-    }
-}
-
 #[unsafe(no_mangle)]
 pub extern "C" fn cendravoka_is_finite(major: f32, minor: f32) -> bool
     ensures { result ≡ finite_score (score major minor) }
 {
-    let s = Score {
-        major: major,
-        minor: minor,
-    };
-    s.is_finite()
+    Score { major, minor }.is_finite()
 }
 
 #[unsafe(no_mangle)]
@@ -72,21 +58,31 @@ pub extern "C" fn cendravoka_compare(
         major: right_major,
         minor: right_minor,
     };
-    left.cmp(right).number()
+    left.cmp(right) as i32
 }
 
-fn best_bits(a: BestAnswer) -> BestBits
-    requires { Near a }
-    ensures { result ≡ best_bits a }
+// The best of a list in numbers: its number, whether there is one, its place and its bits.
+fn best_bits(answer: Result<Option<Ranked>, Refusal>) -> BestBits
+    requires { Near (best_answered answer) }
+    ensures { result ≡ best_bits (best_answered answer) }
 {
-    let best = a.best;
-    match best {
-        BestScore::None => refuse(a.number),
-        BestScore::At(ranked) => BestBits {
-            number: a.number,
+    let none = BestBits {
+        number: 0,
+        found: 0,
+        position: 0,
+        score: ScoreBits { major: 0, minor: 0 },
+    };
+    match answer {
+        Ok(Some(best)) => BestBits {
+            number: 0,
             found: 1,
-            position: ranked.position as u32,
-            score: bits_of(ranked.score),
+            position: best.position as u32,
+            score: bits_of(best.score),
+        },
+        Ok(None) => none,
+        Err(refusal) => BestBits {
+            number: u32::from(refusal),
+            ..none
         },
     }
 }

@@ -3,34 +3,23 @@
 #![tactic(auto)]
 
 ghost use Rattle.std.specs.Prelude.{◌≡◌, ◌+◌, ◌*◌, ◌<◌, ◌≤◌, length, set};
-ghost use Rattle.counting.specs.Fold.{any_to};
 ghost use Rattle.scheduling.specs.Schedule.{entry_at};
 ghost use Rattle.counting.specs.Search.{first_to};
 ghost use Rattle.slot_lists.specs.ListsLaws.{is_entry, removed};
 ghost use Rattle.slot_lists.specs.Lists.{left_by};
 ghost use Rattle.slot_lists.specs.SumsLaws.{added, Sums, Adds, Weighs, Unweighed, SlotSums};
 ghost use Rattle.slot_lists.specs.Held.{misheld};
-ghost use Rattle.slot_lists.specs.Marks.{Looks, Noted, unmarked_at};
-
-// A choice joins a list of `len` entries at its end.
-fn append(part: &mut [u8], len: usize, choice: u8)
-    requires { len < length part.old }
-    ensures { part.new ≡ set part.old len choice }
-{
-    part[len] = choice;
-}
+ghost use Rattle.slot_lists.specs.Marks.{Looks, Noted};
 
 // The place of a choice among the first `len` entries, or `len` where it is not there.
 pub fn place(part: &[u8], len: usize, choice: u8) -> usize
     requires { len ≤ length part.now }
     ensures { result ≡ first_to len (is_entry part.now choice) }
 {
-    let mut i = 0;
-    while i < len {
+    for i in 0..len {
         if part[i] == choice {
             return i;
         }
-        i += 1;
     }
     len
 }
@@ -42,19 +31,16 @@ fn remove(part: &mut [u8], len: usize, choice: u8)
 {
     let at = place(part, len, choice);
     if at < len {
-        let last = part[len - 1];
-        part[at] = last;
+        part[at] = part[len - 1];
     }
 }
 
-// The slot's part is lent on to `append`.
+// A choice joins a slot's list of `len` entries at its end.
 pub fn enter(lists: &mut [u8], stride: usize, slot: usize, len: usize, choice: u8)
     requires { (len < stride) × (stride * slot + stride ≤ length lists.old) }
     ensures { lists.new ≡ set lists.old (stride * slot + len) choice }
 {
-    let a = stride * slot;
-    let e = a + stride;
-    append(&mut lists[a..e], len, choice);
+    lists[stride * slot + len] = choice;
 }
 
 // The slot's part is lent on to `remove`.
@@ -62,9 +48,8 @@ pub fn leave(lists: &mut [u8], stride: usize, slot: usize, len: usize, choice: u
     requires { (len ≤ stride) × (stride * slot + stride ≤ length lists.old) }
     ensures { lists.new ≡ left_by stride slot len choice lists.old }
 {
-    let a = stride * slot;
-    let e = a + stride;
-    remove(&mut lists[a..e], len, choice);
+    let start = stride * slot;
+    remove(&mut lists[start..start + stride], len, choice);
 }
 
 // Adds a weight to the sum of the slot that an entry names.
@@ -75,8 +60,7 @@ pub fn add(sums: &mut [u32; 8], entry: u8, weight: u32)
     if entry == 0 {
         return;
     }
-    let slot = entry as usize - 1;
-    sums[slot] = sums[slot] + weight;
+    sums[entry as usize - 1] += weight;
 }
 
 // The sums of the weights of each slot's choices.
@@ -85,10 +69,8 @@ pub fn sums<'a>(entries: &'a [u8; 32], weights: &'a [u32; 32], n: usize) -> [u32
     ensures { Sums (entry_at weights.now) (entry_at entries.now) n result }
 {
     let mut out = [0u32; 8];
-    let mut i = 0;
-    while i < n {
+    for i in 0..n {
         add(&mut out, entries[i], weights[i]);
-        i += 1;
     }
     out
 }
@@ -104,46 +86,21 @@ pub fn weigh(
     requires { Unweighed lens.old covered.old × Weighs entries.now mins.now n }
     ensures { SlotSums mins.now entries.now n lens.new covered.new }
 {
-    let mut i = 0;
-    while i < n {
+    for i in 0..n {
         add(lens, entries[i], 1);
         add(covered, entries[i], mins[i]);
-        i += 1;
     }
 }
 
-// A choice is marked. A byte of a lent list may be no choice at all: every byte has a place.
-fn mark(marks: &mut [u8; 256], choice: u8, entry: u8)
-    requires { length marks.old ≡ 256 }
-    ensures { (marks.new ≡ set marks.old choice entry) × (choice < 256) }
-{
-    marks[choice as usize] = entry;
-}
-
-// The choices of a list of `len` entries, which begins at `start`, are marked with its slot's entry.
+// The choices of a list of `len` entries, which begins at `start`, are marked with its slot's entry. A
+// byte of a lent list may be no choice at all: every byte has a place.
 fn mark_list(marks: &mut [u8; 256], lists: &[u8], start: usize, len: usize, entry: u8)
     requires { (length marks.old ≡ 256) × (start + len ≤ length lists.now) }
     ensures { Noted lists.now start len entry marks.old marks.new }
 {
-    let mut j = 0;
-    while j < len {
-        mark(marks, lists[start + j], entry);
-        j += 1;
+    for j in 0..len {
+        marks[lists[start + j] as usize] = entry;
     }
-}
-
-// Whether the mark of one of the first n choices is not its entry.
-fn is_stray(marks: &[u8; 256], entries: &[u8; 32], n: usize) -> bool
-    requires { n ≤ 32 }
-    ensures { result ≡ any_to n (unmarked_at marks.now (entry_at entries.now)) }
-{
-    let mut bad = false;
-    let mut k = 0;
-    while k < n {
-        bad = bad | (marks[k] != entries[k]);
-        k += 1;
-    }
-    bad
 }
 
 // Whether the lists do not hold exactly the choices of the schedule. As many choices are marked as the
@@ -160,10 +117,8 @@ pub fn is_misheld(
     ensures { result ≡ misheld stride (entry_at entries.now) n slots lists.now }
 {
     let mut marks = [0u8; 256];
-    let mut s = 0;
-    while s < slots {
+    for s in 0..slots {
         mark_list(&mut marks, lists, stride * s, lens[s] as usize, s as u8 + 1);
-        s += 1;
     }
-    is_stray(&marks, entries, n)
+    counting::any_below(n, |k| marks[k] != entries[k])
 }

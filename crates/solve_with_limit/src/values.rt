@@ -56,7 +56,6 @@ fn check_values_within(
     if entered.number != 0 {
         return model_buffers::refuse(entered.number);
     }
-    let counts = entered.counts;
     let sizes = Sizes {
         stride: limits.choices,
         choosers: input_data::choosers(day),
@@ -64,21 +63,30 @@ fn check_values_within(
         slots: input_data::slots(day),
     };
     let broken = edge_values::values_number(
-        sizes, counts, supplies, from, to, max, entries, ends, blocked, values,
+        sizes,
+        entered.counts,
+        supplies,
+        from,
+        to,
+        max,
+        entries,
+        ends,
+        blocked,
+        values,
     );
     if broken != 0 {
         return model_buffers::refuse(broken);
     }
     decoding::decode(
-        counts.seats,
+        entered.counts.seats,
         sizes,
         &index,
         lists,
-        &counts.lens,
+        &entered.counts.lens,
         values,
         plan,
     );
-    model_buffers::accept(counts)
+    model_buffers::accept(entered.counts)
 }
 
 // Builds the model, checks the values against it, and decodes them into the plan.

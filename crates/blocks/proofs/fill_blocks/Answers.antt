@@ -5,16 +5,13 @@ use Rattle.blocks.specs.BlocksLaws.{blocks_none, blocks_more, blocks_all, blocka
 use Rattle.blocks.proofs.fill_blocks.Goals as goal
 
 pub loop-j-init : goal.loop-j-init
-loop-j-init c = let a = c.args in (omega arith, c.assignment_count-count.ensures, blocks_none (day_of a.day.now).assignment a.entries.now a.blocks.now c.requires.1.long c.requires.1.none)
-
-pub numbers_at-c-requires : goal.numbers_at-c-requires
-numbers_at-c-requires c = (omega (arith, c.requires.0), omega (arith, c.requires.1.blocking.count))
+loop-j-init c = let a = c.args in blocks_none (day_of a.day.now).assignment a.entries.now a.blocks.now c.requires.1.long c.requires.1.none
 
 pub block_constraint-requires : goal.block_constraint-requires
-block_constraint-requires c = let b = c.args.day.now in let j = c.loop-j.j in rw (c.constraint.ensures ∙ ap constraint_of_numbers c.numbers_at-c.ensures ∙ constraint_in b j (omega (arith, c.requires.1.blocking.count))) (blockable c.requires.1.blocking j (omega arith) _ c.loop-j.invariant.2.long)
+block_constraint-requires c = let b = c.args.day.now in let j = c.loop-j.j in rw (c.from-c.ensures ∙ ap constraint_of_numbers c.numbers_at.ensures ∙ constraint_in b j (omega (arith, c.requires.1.blocking.count))) (blockable c.requires.1.blocking j (omega arith) _ c.loop-j.invariant.long)
 
 pub loop-j-preserved : goal.loop-j-preserved
-loop-j-preserved c = let v = c.loop-j.invariant in let a = c.args in let j = c.loop-j.j in (omega arith, v.1, blocks_more (day_of a.day.now).assignment a.entries.now j v.2 (rw (c.constraint.ensures ∙ ap constraint_of_numbers c.numbers_at-c.ensures ∙ constraint_in a.day.now j (omega (arith, c.requires.1.blocking.count))) at c.block_constraint.ensures))
+loop-j-preserved c = let a = c.args in let j = c.loop-j.j in blocks_more (day_of a.day.now).assignment a.entries.now j c.loop-j.invariant (rw (c.from-c.ensures ∙ ap constraint_of_numbers c.numbers_at.ensures ∙ constraint_in a.day.now j (omega (arith, c.requires.1.blocking.count))) at c.block_constraint.ensures)
 
 pub returns : goal.returns
-returns c = let v = c.loop-j.invariant in let a = c.args in blocks_all (day_of a.day.now).assignment a.entries.now c.loop-j.j c.requires.1.blocking.count (omega arith) v.2
+returns c = let a = c.args in blocks_all (day_of a.day.now).assignment a.entries.now c.loop-j.j c.requires.1.blocking.count (omega arith) c.loop-j.invariant

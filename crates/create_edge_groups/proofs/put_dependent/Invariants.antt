@@ -1,4 +1,4 @@
-use Rattle.std.proofs.Common.{◌≡◌, ◌≤◌, ◌-◌}
+use Rattle.std.proofs.Common.{◌≡◌}
 use Rattle.counting.specs.Fold.{join_to}
 use Rattle.edge_groups.specs.Groups.{group_buffers, PutGroups}
 use Rattle.edge_groups.specs.Names.{member_start, group_names_at}
@@ -6,7 +6,4 @@ use Rattle.mip_flow.specs.IndexLaws.{number_at}
 use Rattle.create_edge_groups.proofs.put_dependent.Given as goal
 
 abbrev pub invariant-loop-g : goal.invariant-loop-g
-invariant-loop-g l = (l.g ≤ l.groups) × (l.start ≡ member_start l.lengths l.g) × PutGroups l.n (group_buffers l.initial.entries l.initial.ends l.initial.blocked) l.initial.to (join_to l.g (group_names_at (number_at l.index) l.sizes l.schedule l.lengths l.members)) (group_buffers l.entries l.ends l.blocked) l.to
-
-abbrev pub decreases-loop-g : goal.decreases-loop-g
-decreases-loop-g l = l.groups - l.g
+invariant-loop-g l = (l.start ≡ member_start l.lengths l.g) × PutGroups l.n (group_buffers l.initial.entries l.initial.ends l.initial.blocked) l.initial.to (join_to l.g (group_names_at (number_at l.index) l.sizes l.schedule l.lengths l.members)) (group_buffers l.entries l.ends l.blocked) l.to

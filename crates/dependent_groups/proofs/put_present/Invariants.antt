@@ -1,4 +1,3 @@
-use Rattle.std.proofs.Common.{◌≤◌, ◌-◌}
 use Rattle.counting.specs.Fold.{join_to}
 use Rattle.counting.specs.WrittenLaws.{Put}
 use Rattle.edge_groups.specs.Groups.{present}
@@ -8,7 +7,4 @@ use Rattle.mip_flow.specs.IndexLaws.{number_at}
 use Rattle.dependent_groups.proofs.put_present.Given as goal
 
 abbrev pub invariant-loop-i : goal.invariant-loop-i
-invariant-loop-i l = (l.i ≤ l.len) × Put storing l.initial.out l.initial.to (present l.n (join_to l.i (member_name_at (number_at l.index) l.schedule l.members l.start l.c))) l.out l.to
-
-abbrev pub decreases-loop-i : goal.decreases-loop-i
-decreases-loop-i l = l.len - l.i
+invariant-loop-i l = Put storing l.initial.out l.initial.to (present l.n (join_to l.i (member_name_at (number_at l.index) l.schedule l.members l.start l.c))) l.out l.to

@@ -3,12 +3,6 @@ use Rattle.seat_counts.specs.Laws.{greatest_small, weighing, minor_holds}
 use Rattle.input_data.specs.Bytes.{day_of}
 use Rattle.plan_score.proofs.score_of.Goals as goal
 
-pub greatest_preference-most-requires : goal.greatest_preference-most-requires
-greatest_preference-most-requires c = rw (c.slots-slots.ensures, c.choices-choices.ensures, c.choosers-choosers.ensures) c.requires.1.reading
-
-pub count_preferences-counts-requires : goal.count_preferences-counts-requires
-count_preferences-counts-requires c = rw (c.slots-slots.ensures, c.choices-choices.ensures, c.choosers-choosers.ensures) c.requires.1.reading
-
 pub minor-minor-requires : goal.minor-minor-requires
 minor-minor-requires c = let p = c.requires.1 in rw c.max_preference.ensures (weighing p.reading (rw (c.slots-slots.ensures, c.choices-choices.ensures, c.choosers-choosers.ensures) at c.count_preferences-counts.ensures) p.most p.table)
 

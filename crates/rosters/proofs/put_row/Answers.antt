@@ -1,25 +1,25 @@
-use Rattle.std.proofs.Common.{arith, rules}
-use Rattle.counting.specs.WrittenLaws.{put_start, put_step, put_all, put_length}
-use Rattle.assignment.specs.Plan.{seat_once, row}
-use Rattle.rosters.specs.Laws.{join_room}
+use Rattle.std.proofs.Common.{arith}
+use Rattle.counting.specs.WrittenLaws.{put_start, put_all}
+use Rattle.assignment.specs.Plan.{row}
+use Rattle.rosters.specs.Laws.{seat_room, seat_more, seat_skip}
 use Rattle.rosters.proofs.put_row.Goals as goal
+use Rattle.rosters.proofs.put_row.Goals.{then-plan-base, else-plan-base}
 
 pub loop-s-init : goal.loop-s-init
-loop-s-init c = (search rules, put_start _ _ _ _)
+loop-s-init c = put_start _ _ _ _
 
-pub overflow_add-base : goal.overflow_add-base
-overflow_add-base c = omega (arith, c.requires.inside)
+pub bounds-roster-to : goal.bounds-roster-to
+bounds-roster-to c = seat_room _ _ _ _ _ c.requires c.loop-s-test.true c.loop-s.invariant c.if-plan-base.true
 
-pub bounds-plan-base : goal.bounds-plan-base
-bounds-plan-base c = omega (arith, c.requires.inside)
-
-pub put_if-to-requires : goal.put_if-to-requires
-unfolding row
-put_if-to-requires c = let a = c.args in let p = c.loop-s.invariant.1 in omega (arith, c.requires.room, p.count, put_length p, join_room a.slots (seat_once a.plan.now a.base a.choice a.value) c.loop-s.s c.loop-s-test.true)
-
-pub loop-s-preserved : goal.loop-s-preserved
-loop-s-preserved c = let a = c.args in (search rules, put_step (seat_once a.plan.now a.base a.choice a.value) c.loop-s.invariant.1 c.put_if-to.ensures)
+pub overflow_add-to : goal.overflow_add-to
+overflow_add-to c = omega (arith, seat_room _ _ _ _ _ c.requires c.loop-s-test.true c.loop-s.invariant c.if-plan-base.true)
 
 pub returns : goal.returns
 unfolding row
-returns c = let a = c.args in put_all (seat_once a.plan.now a.base a.choice a.value) (omega arith) c.loop-s.invariant.1
+returns c = put_all _ (omega arith) c.loop-s.invariant
+
+pub loop-s-preserved : goal.loop-s-preserved
+loop-s-preserved c = elim c.if-plan-base.branch [
+  | then-plan-base w ↦ rw (w.roster-is, w.to-is) (seat_more _ _ _ _ _ c.loop-s.invariant w.if-plan-base.true)
+  | else-plan-base w ↦ rw (w.roster-is, w.to-is) (seat_skip _ _ _ _ _ c.loop-s.invariant w.if-plan-base.false)
+]

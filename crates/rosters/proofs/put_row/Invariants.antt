@@ -1,11 +1,7 @@
-use Rattle.std.proofs.Common.{◌≤◌, ◌-◌}
 use Rattle.counting.specs.Fold.{join_to}
 use Rattle.counting.specs.WrittenLaws.{Put, one_buffer}
 use Rattle.assignment.specs.Plan.{seat_once}
 use Rattle.rosters.proofs.put_row.Given as goal
 
 abbrev pub invariant-loop-s : goal.invariant-loop-s
-invariant-loop-s l = (l.s ≤ l.slots) × Put (one_buffer _) l.initial.roster l.at (join_to l.s (seat_once l.plan l.base l.choice l.value)) l.roster l.to
-
-abbrev pub decreases-loop-s : goal.decreases-loop-s
-decreases-loop-s l = l.slots - l.s
+invariant-loop-s l = Put (one_buffer _) l.initial.roster l.at (join_to l.s (seat_once l.plan l.base l.choice l.value)) l.roster l.to

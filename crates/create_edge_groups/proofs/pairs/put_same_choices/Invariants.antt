@@ -1,4 +1,3 @@
-use Rattle.std.proofs.Common.{◌≤◌, ◌-◌}
 use Rattle.counting.specs.Fold.{join_to}
 use Rattle.scheduling.specs.Schedule.{entry_at}
 use Rattle.slot_lists.specs.Lists.{listed}
@@ -8,7 +7,4 @@ use Rattle.mip_flow.specs.IndexLaws.{number_at}
 use Rattle.create_edge_groups.proofs.pairs.put_same_choices.Given as goal
 
 abbrev pub invariant-loop-s : goal.invariant-loop-s
-invariant-loop-s l = (l.s ≤ l.slots) × PutGroups l.n (group_buffers l.initial.entries l.initial.ends l.initial.blocked) l.initial.to (join_to l.s (slot_names_at (number_at l.index) (entry_at l.lens) (listed l.sizes.stride l.lists) l.a l.b)) (group_buffers l.entries l.ends l.blocked) l.to
-
-abbrev pub decreases-loop-s : goal.decreases-loop-s
-decreases-loop-s l = l.slots - l.s
+invariant-loop-s l = PutGroups l.n (group_buffers l.initial.entries l.initial.ends l.initial.blocked) l.initial.to (join_to l.s (slot_names_at (number_at l.index) (entry_at l.lens) (listed l.sizes.stride l.lists) l.a l.b)) (group_buffers l.entries l.ends l.blocked) l.to

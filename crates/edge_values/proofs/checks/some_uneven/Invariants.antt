@@ -1,10 +1,7 @@
-use Rattle.std.proofs.Common.{◌≤◌, ◌-◌, ◌≡◌}
+use Rattle.std.proofs.Common.{◌≡◌}
 use Rattle.counting.specs.Fold.{any_to}
 use Rattle.edge_values.specs.Checks.{start_at, uneven_part}
 use Rattle.edge_values.proofs.checks.some_uneven.Given as goal
 
 abbrev pub invariant-loop-g : goal.invariant-loop-g
-invariant-loop-g l = (l.g ≤ l.groups) × (l.start ≡ start_at l.ends l.g) × (l.bad ≡ any_to l.g (uneven_part l.values l.entries l.ends))
-
-abbrev pub decreases-loop-g : goal.decreases-loop-g
-decreases-loop-g l = l.groups - l.g
+invariant-loop-g l = (l.start ≡ start_at l.ends l.g) × (l.bad ≡ any_to l.g (uneven_part l.values l.entries l.ends))

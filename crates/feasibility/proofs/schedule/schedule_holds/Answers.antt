@@ -1,12 +1,8 @@
-use Rattle.std.proofs.Common.{refl}
 use Rattle.input_data.specs.Bytes.{day_of}
 use Rattle.satisfies_constraints.specs.Constraints.{scheduling_met}
 use Rattle.feasibility.specs.Feasible.{all_placed, schedule_feasible}
 use Rattle.feasibility.specs.Laws.{seated_sums}
 use Rattle.feasibility.proofs.schedule.schedule_holds.Goals as goal
-
-pub add_sizes-requires : goal.add_sizes-requires
-add_sizes-requires c = let p = c.requires in rw c.choices-choices.ensures (p.0, record { lens = refl; covered = refl }, record { mins = p.1.mins; maxs = p.1.maxs })
 
 pub returns : goal.returns
 unfolding schedule_feasible all_placed scheduling_met

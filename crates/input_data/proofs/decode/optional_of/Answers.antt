@@ -1,14 +1,7 @@
-use Rattle.std.proofs.Common.{refl, arith}
-use Rattle.counting.specs.Lists.{filled_none, filled_more, filled_all}
-use Rattle.input_data.specs.Bytes.{day_of}
+use Rattle.std.proofs.Common.{rules}
+use Rattle.input_data.specs.Bytes.{optional_in, day_of}
 use Rattle.input_data.proofs.decode.optional_of.Goals as goal
-
-pub loop-i-preserved : goal.loop-i-preserved
-loop-i-preserved c = (omega arith, filled_more (omega arith) c.flag.ensures c.loop-i.invariant.1)
 
 pub returns : goal.returns
 unfolding day_of
-returns c = filled_all (omega arith) c.loop-i.invariant.1
-
-pub loop-i-init : goal.loop-i-init
-loop-i-init c = (omega arith, filled_none _ _ _ refl)
+returns c = c.table.ensures (optional_in c.args.day.now) (λ k h x p. search rules)

@@ -1,33 +1,24 @@
-use Rattle.std.proofs.Common.{eq-eqb, ne_eqb}
+use Rattle.std.proofs.Common.{ne_eqb, rules}
 use Rattle.satisfies_constraints.specs.ByNumber.{meets_plan}
-use Rattle.satisfies_constraints.specs.Laws.{row_in, both_scheduled}
+use Rattle.satisfies_constraints.specs.Laws.{both_scheduled}
 use Rattle.satisfies_constraints.proofs.assignment_constraints.meets_plan.Goals as goal
 
-pub returns-then-entry_of-scheduled : goal.returns-then-entry_of-scheduled
+pub returns-then-not-entry_of-scheduled : goal.returns-then-not-entry_of-scheduled
 unfolding meets_plan
-returns-then-entry_of-scheduled c = simp (eq-eqb _ _ c.if-kind-eq65536.true, both_scheduled c.args.entries.now c.args.left c.args.right c.entry_of.ensures c.entry_of-scheduled.ensures c.if-entry_of-scheduled.true, c.same_choosers.ensures)
+returns-then-not-entry_of-scheduled c = simp (c.in-65536.is, c.if-not-entry_of-scheduled.true, both_scheduled c.args.entries.now c.args.left c.args.right c.entry_of.ensures c.entry_of-scheduled.ensures c.if-not-entry_of-scheduled.true)
 
-pub returns-then-kind-eq65536 : goal.returns-then-kind-eq65536
+pub returns-else-not-entry_of-scheduled : goal.returns-else-not-entry_of-scheduled
 unfolding meets_plan
-returns-then-kind-eq65536 c = simp (eq-eqb _ _ c.if-kind-eq65536.true, both_scheduled c.args.entries.now c.args.left c.args.right c.entry_of.ensures c.entry_of-scheduled.ensures c.if-entry_of-scheduled.false)
+returns-else-not-entry_of-scheduled c = simp (c.in-65536.is, both_scheduled c.args.entries.now c.args.left c.args.right c.entry_of.ensures c.entry_of-scheduled.ensures c.if-not-entry_of-scheduled.false, c.same_choosers.ensures)
 
-pub is_in-requires : goal.is_in-requires
-is_in-requires c = row_in c.requires.0 (c.requires.2.is_in c.if-kind-eq65537.true)
-
-pub returns-then-kind-eq65537 : goal.returns-then-kind-eq65537
+pub returns-in-65537 : goal.returns-in-65537
 unfolding meets_plan
-returns-then-kind-eq65537 c = simp (ne_eqb _ _ c.if-kind-eq65536.false, eq-eqb _ _ c.if-kind-eq65537.true, c.entry_of-scheduled.ensures, c.is_in.ensures)
+returns-in-65537 c = simp (c.in-65537.is, c.entry_of-scheduled.ensures, c.is_in.ensures)
 
-pub is_in-requires-then-kind-eq65538 : goal.is_in-requires-then-kind-eq65538
-is_in-requires-then-kind-eq65538 c = row_in c.requires.0 (c.requires.2.is_not_in c.if-kind-eq65538.true)
-
-pub returns-then-kind-eq65538 : goal.returns-then-kind-eq65538
+pub returns-in-65538 : goal.returns-in-65538
 unfolding meets_plan
-returns-then-kind-eq65538 c = simp (ne_eqb _ _ c.if-kind-eq65536.false, ne_eqb _ _ c.if-kind-eq65537.false, eq-eqb _ _ c.if-kind-eq65538.true, c.is_in-then-kind-eq65538.ensures)
+returns-in-65538 c = simp (c.in-65538.is, c.is_in-in-65538.ensures)
 
-pub same_choices-requires : goal.same_choices-requires
-same_choices-requires c = let o = c.requires.2.same c.if-kind-eq65536.false c.if-kind-eq65537.false c.if-kind-eq65538.false in (c.requires.0, o.0, o.1)
-
-pub returns : goal.returns
+pub returns-in_default : goal.returns-in_default
 unfolding meets_plan
-returns c = simp (ne_eqb _ _ c.if-kind-eq65536.false, ne_eqb _ _ c.if-kind-eq65537.false, ne_eqb _ _ c.if-kind-eq65538.false, c.same_choices.ensures)
+returns-in_default c = let k = c.args.kind in simp (ne_eqb k 65536 (search rules), ne_eqb k 65537 (search rules), ne_eqb k 65538 (search rules), c.same_choices.ensures)

@@ -1,4 +1,4 @@
-use Rattle.std.proofs.Common.{arith, pos, negsuc, w32}
+use Rattle.std.proofs.Common.{arith, rules, pos, negsuc, w32}
 use Rattle.counting.specs.Ints.{eq_z}
 use Rattle.counting.specs.Signed.{bits_same, bits_differ}
 use Rattle.satisfies_constraints.specs.ByNumber.{size_by_number}
@@ -6,24 +6,24 @@ use Rattle.satisfies_constraints.proofs.scheduling_constraints.has_size.Goals as
 
 pub returns-in-1 : goal.returns-in-1
 unfolding size_by_number eq_z
-returns-in-1 c = simp (bits_same w32 c.args.op (pos 1) c.ranges.op.sfits (omega arith) c.in-1.in-1-own.keys1)
+returns-in-1 c = simp (bits_same w32 c.args.op (pos 1) c.ranges.op.sfits (omega arith) (search rules))
 
 pub returns-in-2 : goal.returns-in-2
 unfolding size_by_number eq_z
-returns-in-2 c = simp (bits_same w32 c.args.op (pos 2) c.ranges.op.sfits (omega arith) c.in-2.in-2-own.keys2)
+returns-in-2 c = simp (bits_same w32 c.args.op (pos 2) c.ranges.op.sfits (omega arith) (search rules))
 
 pub returns-in-3 : goal.returns-in-3
 unfolding size_by_number eq_z
-returns-in-3 c = simp (bits_same w32 c.args.op (pos 3) c.ranges.op.sfits (omega arith) c.in-3.in-3-own.keys3)
+returns-in-3 c = simp (bits_same w32 c.args.op (pos 3) c.ranges.op.sfits (omega arith) (search rules))
 
 pub returns-in-minus1 : goal.returns-in-minus1
 unfolding size_by_number eq_z
-returns-in-minus1 c = simp (bits_same w32 c.args.op (negsuc 0) c.ranges.op.sfits (omega arith) c.in-minus1.in-minus1-own.keys4)
+returns-in-minus1 c = simp (bits_same w32 c.args.op (negsuc 0) c.ranges.op.sfits (omega arith) (search rules))
 
 pub returns-in-minus2 : goal.returns-in-minus2
 unfolding size_by_number eq_z
-returns-in-minus2 c = simp (bits_same w32 c.args.op (negsuc 1) c.ranges.op.sfits (omega arith) c.in-minus2.in-minus2-own.keys5)
+returns-in-minus2 c = simp (bits_same w32 c.args.op (negsuc 1) c.ranges.op.sfits (omega arith) (search rules))
 
 pub returns-in_default : goal.returns-in_default
 unfolding size_by_number eq_z
-returns-in_default c = simp (bits_differ w32 c.args.op (pos 1) c.ranges.op.sfits (omega arith) c.in_default.in_default-own.rest.0.0.0.0.1, bits_differ w32 c.args.op (pos 2) c.ranges.op.sfits (omega arith) c.in_default.in_default-own.rest.0.0.0.1, bits_differ w32 c.args.op (pos 3) c.ranges.op.sfits (omega arith) c.in_default.in_default-own.rest.0.0.1, bits_differ w32 c.args.op (negsuc 0) c.ranges.op.sfits (omega arith) c.in_default.in_default-own.rest.0.1, bits_differ w32 c.args.op (negsuc 1) c.ranges.op.sfits (omega arith) c.in_default.in_default-own.rest.1)
+returns-in_default c = simp (bits_differ w32 c.args.op (pos 1) c.ranges.op.sfits (omega arith) (search rules), bits_differ w32 c.args.op (pos 2) c.ranges.op.sfits (omega arith) (search rules), bits_differ w32 c.args.op (pos 3) c.ranges.op.sfits (omega arith) (search rules), bits_differ w32 c.args.op (negsuc 0) c.ranges.op.sfits (omega arith) (search rules), bits_differ w32 c.args.op (negsuc 1) c.ranges.op.sfits (omega arith) (search rules))

@@ -1,31 +1,28 @@
-use Rattle.std.proofs.Common.{eq-eqb, ne_eqb, w32}
+use Rattle.std.proofs.Common.{ne_eqb, w32, rules}
 use Rattle.counting.specs.Signed.{back}
 use Rattle.satisfies_constraints.specs.ByNumber.{meets_schedule}
 use Rattle.satisfies_constraints.proofs.scheduling_constraints.meets_schedule.Goals as goal
 
-pub returns-then-kind-eq1 : goal.returns-then-kind-eq1
+pub returns-in-1 : goal.returns-in-1
 unfolding meets_schedule
-returns-then-kind-eq1 c = simp (eq-eqb _ _ c.if-kind-eq1.true, c.names.ensures, c.entry_of-a.ensures)
+returns-in-1 c = simp (c.in-1.is, c.names.ensures, c.entry_of-a.ensures)
 
-pub returns-then-kind-eq2 : goal.returns-then-kind-eq2
+pub returns-in-2 : goal.returns-in-2
 unfolding meets_schedule
-returns-then-kind-eq2 c = simp (ne_eqb _ _ c.if-kind-eq1.false, eq-eqb _ _ c.if-kind-eq2.true, c.names-then-kind-eq2.ensures, c.entry_of-a.ensures)
+returns-in-2 c = simp (c.in-2.is, c.names-in-2.ensures, c.entry_of-a.ensures)
 
-pub returns-then-kind-eq3 : goal.returns-then-kind-eq3
+pub returns-in-3 : goal.returns-in-3
 unfolding meets_schedule
-returns-then-kind-eq3 c = simp (ne_eqb _ _ c.if-kind-eq1.false, ne_eqb _ _ c.if-kind-eq2.false, eq-eqb _ _ c.if-kind-eq3.true, c.entry_of-b.ensures, c.entry_of-a.ensures)
+returns-in-3 c = simp (c.in-3.is, c.entry_of-b.ensures, c.entry_of-a.ensures)
 
-pub returns-then-kind-eq4 : goal.returns-then-kind-eq4
+pub returns-in-4 : goal.returns-in-4
 unfolding meets_schedule
-returns-then-kind-eq4 c = simp (ne_eqb _ _ c.if-kind-eq1.false, ne_eqb _ _ c.if-kind-eq2.false, ne_eqb _ _ c.if-kind-eq3.false, eq-eqb _ _ c.if-kind-eq4.true, c.are_apart.ensures, c.entry_of-b.ensures, c.entry_of-a.ensures)
+returns-in-4 c = simp (c.in-4.is, c.are_apart.ensures, c.entry_of-b.ensures, c.entry_of-a.ensures)
 
-pub returns-then-kind-eq5 : goal.returns-then-kind-eq5
+pub returns-in-5 : goal.returns-in-5
 unfolding meets_schedule
-returns-then-kind-eq5 c = simp (ne_eqb _ _ c.if-kind-eq1.false, ne_eqb _ _ c.if-kind-eq2.false, ne_eqb _ _ c.if-kind-eq3.false, ne_eqb _ _ c.if-kind-eq4.false, eq-eqb _ _ c.if-kind-eq5.true, c.has_offset.ensures, c.entry_of-b.ensures, c.entry_of-a.ensures, back w32 c.args.extra c.ranges.extra.sfits)
+returns-in-5 c = simp (c.in-5.is, c.has_offset.ensures, c.entry_of-b.ensures, c.entry_of-a.ensures, back w32 c.args.extra c.ranges.extra.sfits)
 
-pub size_of-requires : goal.size_of-requires
-size_of-requires c = (c.requires.0, c.requires.2 c.if-kind-eq1.false c.if-kind-eq2.false c.if-kind-eq3.false c.if-kind-eq4.false c.if-kind-eq5.false)
-
-pub returns : goal.returns
+pub returns-in_default : goal.returns-in_default
 unfolding meets_schedule
-returns c = simp (ne_eqb _ _ c.if-kind-eq1.false, ne_eqb _ _ c.if-kind-eq2.false, ne_eqb _ _ c.if-kind-eq3.false, ne_eqb _ _ c.if-kind-eq4.false, ne_eqb _ _ c.if-kind-eq5.false, c.has_size.ensures, c.size_of.ensures, back w32 c.args.extra c.ranges.extra.sfits)
+returns-in_default c = let k = c.args.kind in simp (ne_eqb k 1 (search rules), ne_eqb k 2 (search rules), ne_eqb k 3 (search rules), ne_eqb k 4 (search rules), ne_eqb k 5 (search rules), c.has_size.ensures, c.size_of.ensures, back w32 c.args.extra c.ranges.extra.sfits)

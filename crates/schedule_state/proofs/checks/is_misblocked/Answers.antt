@@ -12,14 +12,5 @@ returns-then-not-any_blocked c = let a = c.args in sym (none_misblocked (day_of 
 pub fill_blocks-requires : goal.fill_blocks-requires
 fill_blocks-requires c = (c.requires.0, unfilled c.requires.2.blocking)
 
-pub choosers-requires : goal.choosers-requires
-choosers-requires c = c.requires.0
-
-pub choices-requires : goal.choices-requires
-choices-requires c = c.requires.0
-
-pub blocks_differ-requires : goal.blocks_differ-requires
-blocks_differ-requires c = rw (c.choices.ensures, c.choosers.ensures) (c.requires.1, c.requires.2.choosers, c.requires.2.choices)
-
 pub returns : goal.returns
 returns c = let a = c.args in (rw (c.choices.ensures, c.choosers.ensures) at c.blocks_differ.ensures) ∙ blocked_in (day_of a.day.now) a.entries.now (state_in a.state.now).blocks c.requires.2 c.fill_blocks.ensures

@@ -1,14 +1,8 @@
-use Rattle.std.proofs.Common.{arith, ◌≡◌, sym, ◌∙◌, false, ◌||◌}
-use Rattle.counting.specs.FoldLaws.{fold_none}
-use Rattle.counting.specs.Tests.{any_more}
+use Rattle.std.proofs.Common.{rules}
+use Rattle.schedule_state.specs.Bytes.{state_in}
 use Rattle.schedule_state.specs.BytesLaws.{block_in_lem}
+use Rattle.schedule_state.specs.State.{unlike_at}
 use Rattle.schedule_state.proofs.checks.tables_differ.Goals as goal
 
-pub loop-p-init : goal.loop-p-init
-loop-p-init c = (omega arith, sym (fold_none ◌||◌ false _))
-
-pub loop-p-preserved : goal.loop-p-preserved
-loop-p-preserved c = (omega arith, any_more _ _ c.loop-p.invariant.1 (rw (c.flag.ensures ∙ sym (block_in_lem c.args.state.now c.loop-p.p (omega arith))) at c.is_unlike-bad.ensures))
-
 pub returns : goal.returns
-returns c = let e : c.loop-p.p ≡ 2048 = omega arith in rw e at c.loop-p.invariant.1
+returns c = let a = c.args in c.any_below.ensures (unlike_at (state_in a.state.now).blocks a.right.now) (λ k h x p. rw (block_in_lem a.state.now k h) (search rules))

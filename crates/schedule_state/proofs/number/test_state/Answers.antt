@@ -5,26 +5,14 @@ use Rattle.schedule_state.specs.Good.{kept_names, weighs_of}
 use Rattle.schedule_state.specs.Numbers.{passed, handed_state, outside_in, kept_in, found_day, found_11, found_12}
 use Rattle.schedule_state.proofs.number.test_state.Goals as goal
 
-pub day_number-number-requires : goal.day_number-number-requires
-day_number-number-requires c = c.requires.0
-
 pub returns-then-number-ne0 : goal.returns-then-number-ne0
 returns-then-number-ne0 c = let a = c.args in found_day a.limits (day_of a.day.now) a.state.now a.beside a.also a.lists.now c.day_number-number.ensures c.if-number-ne0.true
-
-pub choices-n-requires : goal.choices-n-requires
-choices-n-requires c = c.requires.0
-
-pub slots-requires : goal.slots-requires
-slots-requires c = c.requires.0
 
 pub slice_bounds-bad_slots-end : goal.slice_bounds-bad_slots-end
 slice_bounds-bad_slots-end c = let a = c.args in omega (arith, handed_state a.limits (day_of a.day.now) a.state.now a.beside a.also a.lists.now c.day_number-number.ensures c.requires.1 c.if-number-ne0.false)
 
 pub returns-then-also-outside : goal.returns-then-also-outside
 returns-then-also-outside c = let a = c.args in found_11 a.limits (day_of a.day.now) a.state.now a.beside a.also a.lists.now c.day_number-number.ensures c.if-number-ne0.false (outside_in a.day.now a.state.now c.choices-n.ensures c.slots.ensures c.bad_slots-outside.ensures) c.if-also-outside.true
-
-pub mins_of-mins-requires : goal.mins_of-mins-requires
-mins_of-mins-requires c = c.requires.0
 
 pub slice_bounds-kept-end : goal.slice_bounds-kept-end
 slice_bounds-kept-end c = let a = c.args in omega (arith, handed_state a.limits (day_of a.day.now) a.state.now a.beside a.also a.lists.now c.day_number-number.ensures c.requires.1 c.if-number-ne0.false)

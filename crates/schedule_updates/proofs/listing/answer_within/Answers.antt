@@ -1,17 +1,12 @@
-use Rattle.std.proofs.Common.{arith, refl, ◌∙◌, ◌≤◌, mul-le-mul, leb, length}
+use Rattle.std.proofs.Common.{arith, ◌∙◌, ◌≤◌, mul-le-mul}
 use Rattle.counting.specs.Tests.{so}
 use Rattle.input_data.specs.BytesLaws.{lent_short}
-use Rattle.schedule_state.specs.Bytes.{not_state}
 use Rattle.schedule_state.specs.Good.{slots_most}
-use Rattle.schedule_updates.specs.Numbers.{handed_lists, list_lent, list_refused_lem, list_found_lem, list_accepted}
-use Rattle.schedule_state.specs.Numbers.{state_long}
+use Rattle.schedule_updates.specs.Numbers.{list_lent, list_refused_lem, list_found_lem, list_accepted}
 use Rattle.schedule_updates.proofs.listing.answer_within.Goals as goal
 
 pub returns-then-day-ne2044 : goal.returns-then-day-ne2044
 returns-then-day-ne2044 c = let a = c.args in c.refuse.ensures ∙ list_refused_lem a.limits a.day.now a.state.now a.slot a.lists.now 2 (lent_short _ _ _ _ c.if-day-ne2044.true) (omega arith)
-
-pub test_state-number-requires : goal.test_state-number-requires
-test_state-number-requires c = let a = c.args in (c.if-day-ne2044.false, rw c.beside-tested.ensures (handed_lists a.limits a.state.now (length a.lists.now) (not_state a.state.now) (leb c.slots.result a.slot) c.requires (λ e. state_long a.state.now e)), record { lens = refl; covered = refl })
 
 pub returns-then-number-ne0 : goal.returns-then-number-ne0
 returns-then-number-ne0 c = let a = c.args in c.refuse-then-number-ne0.ensures ∙ list_refused_lem a.limits a.day.now a.state.now a.slot a.lists.now c.test_state-number.result (list_lent a.limits a.day.now a.state.now a.slot a.lists.now c.if-day-ne2044.false c.beside-tested.ensures c.slots.ensures c.test_state-number.ensures.number) c.if-number-ne0.true

@@ -1,15 +1,11 @@
-use Rattle.std.proofs.Common.{arith, refl, ◌+◌, ◌≤◌, length}
-use native.Mathlib.Nat.{add-sub_cancel_left}
+use Rattle.std.proofs.Common.{arith, ◌+◌, ◌≤◌, length}
 use Rattle.input_data.specs.Lengths.{full_day}
 use Rattle.input_data.specs.Numbers.{full_within}
 use Rattle.schedule_updates.specs.Numbers.{list_inside}
 use Rattle.schedule_updates.proofs.listing.slot_list.Goals as goal
 
-pub overflow_add-end : goal.overflow_add-end
-overflow_add-end c = let a = c.args in let r = c.slot_list_answer-a.result in let i : r.start + r.length ≤ length a.lists.now = rw c.slot_list_answer-a.ensures (list_inside full_day a.day.now a.state.now a.slot a.lists.now full_within) in omega arith
+pub overflow_add-result : goal.overflow_add-result
+overflow_add-result c = let a = c.args in let r = c.slot_list_answer-a.result in let i : r.start + r.length ≤ length a.lists.now = rw c.slot_list_answer-a.ensures (list_inside full_day a.day.now a.state.now a.slot a.lists.now full_within) in omega arith
 
 pub slice_bounds-result-end : goal.slice_bounds-result-end
 slice_bounds-result-end c = let a = c.args in let r = c.slot_list_answer-a.result in let i : r.start + r.length ≤ length a.lists.now = rw c.slot_list_answer-a.ensures (list_inside full_day a.day.now a.state.now a.slot a.lists.now full_within) in omega arith
-
-pub returns : goal.returns
-returns c = let r = c.slot_list_answer-a.result in rw (← c.slot_list_answer-a.ensures) (record { block = refl; start = omega arith; holds = rw (add-sub_cancel_left r.start r.length) })

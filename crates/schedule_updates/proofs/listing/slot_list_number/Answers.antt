@@ -3,4 +3,4 @@ use Rattle.schedule_updates.specs.Numbers.{list_number_lem}
 use Rattle.schedule_updates.proofs.listing.slot_list_number.Goals as goal
 
 pub returns : goal.returns
-returns c = let a = c.args in rw c.slot_list_answer-a.ensures (list_number_lem full_day a.day.now a.state.now a.slot a.lists.now)
+returns c = let a = c.args in rw c.slot_list_answer.ensures (list_number_lem full_day a.day.now a.state.now a.slot a.lists.now)

@@ -6,9 +6,6 @@ use Rattle.schedule_updates.proofs.state.build_within.Goals as goal
 pub returns-then-day-ne2044 : goal.returns-then-day-ne2044
 returns-then-day-ne2044 c = leaves_refused 2 (lent_short _ _ _ _ c.if-day-ne2044.true) (omega arith) c.refuse.ensures
 
-pub returns-then-number-ne0 : goal.returns-then-number-ne0
-returns-then-number-ne0 c = leaves_refused c.build_number-number.result c.build_number-number.ensures c.if-number-ne0.true c.refuse-then-number-ne0.ensures
-
 pub kept-first-requires : goal.kept-first-requires
 kept-first-requires c = let a = c.args in build_long a.limits a.day.now a.schedule.now (length a.lists.now) c.requires c.build_number-number.ensures c.if-number-ne0.false
 

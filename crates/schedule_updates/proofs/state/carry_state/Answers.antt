@@ -1,10 +1,7 @@
 use Rattle.input_data.specs.Bytes.{day_of}
 use Rattle.schedule_state.specs.Good.{blocking}
-use Rattle.schedule_updates.specs.Numbers.{carry_of, carried_of}
+use Rattle.schedule_updates.specs.Numbers.{carried_of}
 use Rattle.schedule_updates.proofs.state.carry_state.Goals as goal
-
-pub carry-requires : goal.carry-requires
-carry-requires c = carry_of c.choices-n.ensures c.requires.1 c.requires.2
 
 pub made-requires : goal.made-requires
 made-requires c = (c.requires.0, blocking c.requires.1.ready)

@@ -1,15 +1,10 @@
-use Rattle.std.proofs.Common.{arith, false, ◌||◌, refl, length}
+use Rattle.std.proofs.Common.{arith}
 use Rattle.input_data.specs.BytesLaws.{lent_short}
-use Rattle.scheduling.specs.Handed.{not_schedule}
-use Rattle.schedule_state.specs.Bytes.{not_state}
-use Rattle.schedule_updates.specs.Numbers.{leaves_refused, handed_lists, both_long, update_lent_lem, update_long, update_carriable, update_summed, updated_leaves}
+use Rattle.schedule_updates.specs.Numbers.{leaves_refused, update_lent_lem, update_long, update_carriable, update_summed, updated_leaves}
 use Rattle.schedule_updates.proofs.state.update_within.Goals as goal
 
 pub returns-then-day-ne2044 : goal.returns-then-day-ne2044
 returns-then-day-ne2044 c = leaves_refused 2 (lent_short _ _ _ _ c.if-day-ne2044.true) (omega arith) c.refuse.ensures
-
-pub test_state-number-requires : goal.test_state-number-requires
-test_state-number-requires c = let a = c.args in (c.if-day-ne2044.false, rw c.beside-tested.ensures (handed_lists a.limits a.state.now (length a.lists.now) (not_state a.state.now || not_schedule a.schedule.now) false c.requires (λ e. (both_long a.state.now a.schedule.now e).0)), record { lens = refl; covered = refl })
 
 pub returns-then-number-ne0 : goal.returns-then-number-ne0
 returns-then-number-ne0 c = let a = c.args in leaves_refused c.test_state-number.result (update_lent_lem a.limits a.day.now a.state.now a.schedule.now a.lists.now c.if-day-ne2044.false c.beside-tested.ensures c.names_outside-also.ensures c.test_state-number.ensures.number) c.if-number-ne0.true c.refuse-then-number-ne0.ensures

@@ -1,23 +1,16 @@
-use Rattle.counting.specs.Tests.{so}
-use Rattle.score.specs.Before.{plain_order}
+use Rattle.score.specs.TotalCmp.{minor_number, nan_decides, majors_decide}
 use Rattle.score.proofs.Score.cmp_finite.Goals as goal
 
-pub returns-then-precedes : goal.returns-then-precedes
-unfolding plain_order
-returns-then-precedes c = simp (so c.precedes.ensures c.if-precedes.true)
+pub total_cmp-minor-requires-clause-self_not_nan : goal.total_cmp-minor-requires-clause-self_not_nan
+total_cmp-minor-requires-clause-self_not_nan c = rw (minor_number c.args.self c.requires.0) tt
 
-pub returns-then-precedes-2 : goal.returns-then-precedes-2
-unfolding plain_order
-returns-then-precedes-2 c = simp (so c.precedes.ensures c.if-precedes.false, so c.precedes-2.ensures c.if-precedes-2.true)
+pub total_cmp-minor-requires-clause-other_not_nan : goal.total_cmp-minor-requires-clause-other_not_nan
+total_cmp-minor-requires-clause-other_not_nan c = rw (minor_number c.args.other c.requires.1) tt
 
-pub returns-then-precedes-3 : goal.returns-then-precedes-3
-unfolding plain_order
-returns-then-precedes-3 c = simp (so c.precedes.ensures c.if-precedes.false, so c.precedes-2.ensures c.if-precedes-2.false, so c.precedes-3.ensures c.if-precedes-3.true)
-
-pub returns-then-precedes-4 : goal.returns-then-precedes-4
-unfolding plain_order
-returns-then-precedes-4 c = simp (so c.precedes.ensures c.if-precedes.false, so c.precedes-2.ensures c.if-precedes-2.false, so c.precedes-3.ensures c.if-precedes-3.false, so c.precedes-4.ensures c.if-precedes-4.true)
+pub returns-then-is_nan : goal.returns-then-is_nan
+returns-then-is_nan c = nan_decides c.args.self c.args.other c.requires.0 c.requires.1 c.total_cmp-minor.ensures
+    (rw (c.is_nan.ensures.value, c.is_nan-2.ensures.value) at c.if-is_nan.true)
 
 pub returns : goal.returns
-unfolding plain_order
-returns c = simp (so c.precedes.ensures c.if-precedes.false, so c.precedes-2.ensures c.if-precedes-2.false, so c.precedes-3.ensures c.if-precedes-3.false, so c.precedes-4.ensures c.if-precedes-4.false)
+returns c = majors_decide c.args.self c.args.other c.requires.0 c.requires.1 c.total_cmp-minor.ensures
+    (rw (c.is_nan.ensures.value, c.is_nan-2.ensures.value) at c.if-is_nan.false) c.total_cmp.ensures c.then.ensures

@@ -11,10 +11,7 @@ pub returns-then-day-ne2044 : goal.returns-then-day-ne2044
 returns-then-day-ne2044 c = let a = c.args in lent_short a.limits a.day.now (has_schedule a.solution && not_schedule a.schedule.now) _ c.if-day-ne2044.true
 
 pub returns-then-too_many : goal.returns-then-too_many
-returns-then-too_many c = let a = c.args in lent_many a.limits a.day.now (has_schedule a.solution && not_schedule a.schedule.now) _ c.if-day-ne2044.false (so (rw (c.slots.ensures, c.choices.ensures, c.choosers-choosers.ensures) at c.too_many.ensures) c.if-too_many.true)
-
-pub beside_tables-beside-requires : goal.beside_tables-beside-requires
-beside_tables-beside-requires c = record { long = c.if-day-ne2044.false; within = c.requires; few = so (rw (c.slots.ensures, c.choices.ensures, c.choosers-choosers.ensures) at c.too_many.ensures) c.if-too_many.false }
+returns-then-too_many c = let a = c.args in lent_many a.limits a.day.now (has_schedule a.solution && not_schedule a.schedule.now) _ c.if-day-ne2044.false (so (rw (c.slots.ensures, c.choices.ensures, c.choosers.ensures) at c.too_many.ensures) c.if-too_many.true)
 
 pub returns-then-number-ne0 : goal.returns-then-number-ne0
 unfolding evaluate_number

@@ -8,7 +8,7 @@ use Rattle.scoring.proofs.evaluating.evaluate_within.Goals as goal
 
 pub returns-then-number-ne0 : goal.returns-then-number-ne0
 unfolding evaluate_lent
-returns-then-number-ne0 c = let a = c.args in score_refused (evaluate_lent_number a.limits a.day.now a.solution a.schedule.now a.plan.now a.preferences.now (length a.powers.now)) (scored (day_of a.day.now) a.solution a.greedy a.preferences.now a.powers.now (schedule_of a.schedule.now) a.plan.now) c.evaluate_number-number.ensures c.if-number-ne0.true (rw c.no_score.ensures at c.answer.ensures)
+returns-then-number-ne0 c = let a = c.args in score_refused (evaluate_lent_number a.limits a.day.now a.solution a.schedule.now a.plan.now a.preferences.now (length a.powers.now)) (scored (day_of a.day.now) a.solution a.greedy a.preferences.now a.powers.now (schedule_of a.schedule.now) a.plan.now) c.evaluate_number-number.ensures c.if-number-ne0.true (rw c.no_score.ensures)
 
 pub choices-requires : goal.choices-requires
 choices-requires c = (evaluate_lent_lem c.args.limits c.args.day.now c.args.solution c.args.schedule.now c.args.plan.now c.args.preferences.now (length c.args.powers.now) c.requires (so c.evaluate_number-number.ensures c.if-number-ne0.false) (so c.has_plan.ensures c.if-has_plan.true)).1.long
@@ -21,8 +21,8 @@ evaluate_plan-requires c = rw (c.kept-entries.ensures, c.choices.ensures) (evalu
 
 pub returns-then-has_plan : goal.returns-then-has_plan
 unfolding evaluate_lent
-returns-then-has_plan c = let a = c.args in score_done (evaluate_lent_number a.limits a.day.now a.solution a.schedule.now a.plan.now a.preferences.now (length a.powers.now)) (scored (day_of a.day.now) a.solution a.greedy a.preferences.now a.powers.now (schedule_of a.schedule.now) a.plan.now) c.evaluate_number-number.ensures c.if-number-ne0.false c.answer-then-has_plan.ensures (c.evaluate_plan.ensures ∙ rw (c.kept-entries.ensures, c.choices.ensures, so c.has_plan.ensures c.if-has_plan.true))
+returns-then-has_plan c = let a = c.args in score_done (evaluate_lent_number a.limits a.day.now a.solution a.schedule.now a.plan.now a.preferences.now (length a.powers.now)) (scored (day_of a.day.now) a.solution a.greedy a.preferences.now a.powers.now (schedule_of a.schedule.now) a.plan.now) c.evaluate_number-number.ensures c.if-number-ne0.false (rw c.if-number-ne0.false) (c.evaluate_plan.ensures ∙ rw (c.kept-entries.ensures, c.choices.ensures, so c.has_plan.ensures c.if-has_plan.true))
 
 pub returns : goal.returns
 unfolding evaluate_lent
-returns c = let a = c.args in score_done (evaluate_lent_number a.limits a.day.now a.solution a.schedule.now a.plan.now a.preferences.now (length a.powers.now)) (scored (day_of a.day.now) a.solution a.greedy a.preferences.now a.powers.now (schedule_of a.schedule.now) a.plan.now) c.evaluate_number-number.ensures c.if-number-ne0.false c.answer-2.ensures (c.infinite.ensures ∙ rw (so c.has_plan.ensures c.if-has_plan.false))
+returns c = let a = c.args in score_done (evaluate_lent_number a.limits a.day.now a.solution a.schedule.now a.plan.now a.preferences.now (length a.powers.now)) (scored (day_of a.day.now) a.solution a.greedy a.preferences.now a.powers.now (schedule_of a.schedule.now) a.plan.now) c.evaluate_number-number.ensures c.if-number-ne0.false (rw c.if-number-ne0.false) (c.infinite.ensures ∙ rw (so c.has_plan.ensures c.if-has_plan.false))

@@ -1,4 +1,4 @@
-use Rattle.std.proofs.Common.{false, mul-le-mul, arith, length}
+use Rattle.std.proofs.Common.{false, length}
 use Rattle.assignment.specs.Calls.{beside_plan}
 use Rattle.input_data.specs.Bytes.{day_of}
 use Rattle.input_data.specs.BytesLaws.{lent_short, lent_refused, lent_else}
@@ -20,6 +20,3 @@ parts_number-requires c = let a = c.args in verdict_parts a.limits a.day.now a.s
 pub returns : goal.returns
 unfolding verdict_number
 returns c = let a = c.args in lent_else a.limits a.day.now (not_schedule a.schedule.now) (beside_plan a.limits (length a.plan.now) false false) _ c.if-day-ne2044.false (beside_plan_lem a.limits (day_of a.day.now) a.schedule.now (length a.plan.now) 0 c.wrong_schedule.ensures c.day_number-number.ensures) c.if-number-ne0.false c.parts_number.ensures
-
-pub overflow_mul-beside : goal.overflow_mul-beside
-overflow_mul-beside c = omega (arith, mul-le-mul c.requires.choosers c.requires.slots)

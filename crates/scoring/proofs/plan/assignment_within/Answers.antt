@@ -1,3 +1,4 @@
+use Rattle.std.proofs.Common.{refl}
 use Rattle.satisfies_constraints.specs.Constraints.{assignment_met}
 use Rattle.counting.specs.Tests.{so}
 use Rattle.input_data.specs.Bytes.{day_of, lent_number}
@@ -8,7 +9,7 @@ use Rattle.scoring.proofs.plan.assignment_within.Goals as goal
 
 pub returns-then-number-ne0 : goal.returns-then-number-ne0
 unfolding assignment_lent
-returns-then-number-ne0 c = let a = c.args in verdict_refused (lent_number a.limits a.day.now (not_schedule a.schedule.now) (verdict_number a.limits (day_of a.day.now) (schedule_of a.schedule.now) a.plan.now)) (assignment_met (day_of a.day.now) (kept_of (day_of a.day.now) (schedule_of a.schedule.now)) a.plan.now) c.verdict_number-number.ensures c.if-number-ne0.true c.answer.ensures
+returns-then-number-ne0 c = let a = c.args in verdict_refused (lent_number a.limits a.day.now (not_schedule a.schedule.now) (verdict_number a.limits (day_of a.day.now) (schedule_of a.schedule.now) a.plan.now)) (assignment_met (day_of a.day.now) (kept_of (day_of a.day.now) (schedule_of a.schedule.now)) a.plan.now) c.verdict_number-number.ensures c.if-number-ne0.true refl
 
 pub choices-requires : goal.choices-requires
 choices-requires c = (verdict_lent c.args.limits c.args.day.now c.args.schedule.now c.args.plan.now c.requires (so c.verdict_number-number.ensures c.if-number-ne0.false)).long
@@ -21,4 +22,4 @@ assignment_holds-requires c = let p = verdict_lent c.args.limits c.args.day.now 
 
 pub returns : goal.returns
 unfolding assignment_lent
-returns c = let a = c.args in verdict_done (lent_number a.limits a.day.now (not_schedule a.schedule.now) (verdict_number a.limits (day_of a.day.now) (schedule_of a.schedule.now) a.plan.now)) (assignment_met (day_of a.day.now) (kept_of (day_of a.day.now) (schedule_of a.schedule.now)) a.plan.now) c.verdict_number-number.ensures c.if-number-ne0.false c.answer-2.ensures (rw (c.kept-entries.ensures, c.choices.ensures) at c.assignment_holds.ensures)
+returns c = let a = c.args in verdict_done (lent_number a.limits a.day.now (not_schedule a.schedule.now) (verdict_number a.limits (day_of a.day.now) (schedule_of a.schedule.now) a.plan.now)) (assignment_met (day_of a.day.now) (kept_of (day_of a.day.now) (schedule_of a.schedule.now)) a.plan.now) c.verdict_number-number.ensures c.if-number-ne0.false (rw c.if-number-ne0.false) (rw (c.kept-entries.ensures, c.choices.ensures) at c.assignment_holds.ensures)

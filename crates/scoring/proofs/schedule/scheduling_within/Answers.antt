@@ -1,3 +1,4 @@
+use Rattle.std.proofs.Common.{refl}
 use Rattle.satisfies_constraints.specs.Constraints.{scheduling_met}
 use Rattle.counting.specs.Tests.{so}
 use Rattle.input_data.specs.Bytes.{day_of, lent_number}
@@ -8,7 +9,7 @@ use Rattle.scoring.proofs.schedule.scheduling_within.Goals as goal
 
 pub returns-then-number-ne0 : goal.returns-then-number-ne0
 unfolding scheduling_lent
-returns-then-number-ne0 c = let a = c.args in verdict_refused (lent_number a.limits a.day.now (not_schedule a.schedule.now) (schedule_number a.limits (day_of a.day.now) (schedule_of a.schedule.now))) (scheduling_met (day_of a.day.now) (kept_of (day_of a.day.now) (schedule_of a.schedule.now))) c.schedule_number-number.ensures c.if-number-ne0.true c.answer.ensures
+returns-then-number-ne0 c = let a = c.args in verdict_refused (lent_number a.limits a.day.now (not_schedule a.schedule.now) (schedule_number a.limits (day_of a.day.now) (schedule_of a.schedule.now))) (scheduling_met (day_of a.day.now) (kept_of (day_of a.day.now) (schedule_of a.schedule.now))) c.schedule_number-number.ensures c.if-number-ne0.true refl
 
 pub choices-choices-requires : goal.choices-choices-requires
 choices-choices-requires c = (schedule_lent_lem c.args.limits c.args.day.now c.args.schedule.now c.requires (so c.schedule_number-number.ensures c.if-number-ne0.false)).long
@@ -21,4 +22,4 @@ scheduling_met-requires c = let p = schedule_lent_lem c.args.limits c.args.day.n
 
 pub returns : goal.returns
 unfolding scheduling_lent scheduling_met
-returns c = let a = c.args in verdict_done (lent_number a.limits a.day.now (not_schedule a.schedule.now) (schedule_number a.limits (day_of a.day.now) (schedule_of a.schedule.now))) (scheduling_met (day_of a.day.now) (kept_of (day_of a.day.now) (schedule_of a.schedule.now))) c.schedule_number-number.ensures c.if-number-ne0.false c.answer-2.ensures (rw (c.kept-entries.ensures, c.choices-choices.ensures) at c.scheduling_met.ensures)
+returns c = let a = c.args in verdict_done (lent_number a.limits a.day.now (not_schedule a.schedule.now) (schedule_number a.limits (day_of a.day.now) (schedule_of a.schedule.now))) (scheduling_met (day_of a.day.now) (kept_of (day_of a.day.now) (schedule_of a.schedule.now))) c.schedule_number-number.ensures c.if-number-ne0.false (rw c.if-number-ne0.false) (rw (c.kept-entries.ensures, c.choices-choices.ensures) at c.scheduling_met.ensures)

@@ -1,15 +1,15 @@
-use Rattle.std.proofs.Common.{arith, rules}
+use Rattle.std.proofs.Common.{arith}
 use Rattle.seat_counts.specs.Laws.{holds_none, holds_more, holds_all, counting}
 use Rattle.seat_counts.proofs.preferences.count_preferences.Goals as goal
 
 pub loop-c-init : goal.loop-c-init
-loop-c-init c = (search rules, holds_none _ _ _ _)
+loop-c-init c = holds_none _ _ _ _
 
 pub count_row-requires : goal.count_row-requires
-count_row-requires c = let p = c.requires in (p, counting _ _ _ _ _ p.short c.loop-c-test.true c.loop-c.invariant.1)
+count_row-requires c = let p = c.requires in (p, counting _ _ _ _ _ p.short c.loop-c-test.true c.loop-c.invariant)
 
 pub loop-c-preserved : goal.loop-c-preserved
-loop-c-preserved c = (search rules, holds_more _ _ _ _ _ c.loop-c.invariant.1 c.count_row.ensures)
+loop-c-preserved c = holds_more _ _ _ _ _ c.loop-c.invariant c.count_row.ensures
 
 pub returns : goal.returns
-returns c = holds_all _ _ _ _ _ _ (omega arith) c.loop-c.invariant.1
+returns c = holds_all _ _ _ _ _ _ (omega arith) c.loop-c.invariant

@@ -7,15 +7,12 @@ use Rattle.seat_counts.proofs.preferences.minor.Goals as goal
 
 pub loop-p-init : goal.loop-p-init
 unfolding minor_to of_bits
-loop-p-init c = (omega arith, sym (fold_none (add binary32) _ _))
-
-pub term-sum-requires : goal.term-sum-requires
-term-sum-requires c = c.requires.small c.loop-p.p
+loop-p-init c = sym (fold_none (add binary32) _ _)
 
 pub loop-p-preserved : goal.loop-p-preserved
 unfolding minor_to
-loop-p-preserved c = (omega arith, fold_next (add binary32) _ _ _ c.loop-p.invariant.1 c.term-sum.ensures)
+loop-p-preserved c = fold_next (add binary32) _ _ _ c.loop-p.invariant c.term-sum.ensures
 
 pub returns : goal.returns
 unfolding minor_of
-returns c = let p : c.loop-p.p ≡ c.args.most + 1 = omega arith in rw (c.loop-p.invariant.1, p, c.scaling-by.ensures)
+returns c = let p : c.loop-p.p ≡ c.args.most + 1 = omega arith in rw (c.loop-p.invariant, p, c.scaling-by.ensures)

@@ -1,6 +1,0 @@
-use Rattle.input_data.specs.Bytes.{day_of}
-use Rattle.input_data.proofs.decode.mins_of.Goals as goal
-
-pub returns : goal.returns
-unfolding day_of
-returns c = c.words32.ensures

@@ -1,6 +1,0 @@
-use Rattle.input_data.specs.Bytes.{list_in, day_of}
-use Rattle.input_data.proofs.decode.scheduling_of.Goals as goal
-
-pub returns : goal.returns
-unfolding day_of list_in
-returns c = simp (c.entries_of.ensures, c.scheduling_count.ensures)
