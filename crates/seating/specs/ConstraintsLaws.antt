@@ -1,29 +1,21 @@
--- What the entry of a negation knows of its answer: left and target are still numbers of 32 bits. Assumes nothing.
-use Rattle.std.specs.Prelude.{ℕ, ◌<◌, ◌≡◌, refl, Bool, true, false, cond, ℤ}
-use Rattle.std.proofs.Common.{arith}
-use Rattle.counting.specs.Tests.{bool_cases}
-use Rattle.constraint.specs.declared.Constraint.{Constraint}
-use Rattle.constraint.specs.declared.ConstraintExtra.{ConstraintExtra}
-use Rattle.constraint.specs.declared.ConstraintExtra.TheVariants as Extra
-use Rattle.constraint.specs.Cases.{target_operand, target_of}
-use Rattle.constraint.specs.Kind.{is_size_limit, kind_of}
-use Rattle.constraint.specs.Negation.{NegationAnswer, size_limit_negation, negation_of, constraint_of}
-use Rattle.constraint.specs.Numbers.{is_target, operand_is}
+-- How the negation's answer follows from the numbers that came in. Assumes nothing.
+use Rattle.std.specs.Prelude.{ℕ, ◌≡◌, true, false, cond, ℤ, pos}
+use Rattle.std.proofs.Math.Path.{sym}
+use Rattle.std.proofs.Common.{ap, ◌∙◌}
+use Rattle.constraint.specs.Kind.{kind_number, kind_of}
+use Rattle.constraint.specs.Cases.{operator_of, extra_operand}
+use Rattle.constraint.specs.Negation.{negated_kind, negation_of, constraint_of}
+use Rattle.constraint.specs.Numbers.{has_operator, has_extra, negated_extra, case_is, operand_is, extra_case_is, extra_operand_is, negated_case_is, negation_refused_lem, negation_limit, negation_else}
+use Rattle.seating.specs.Constraints.{negation_numbers, refused_numbers, negated_numbers}
 
-pub record Fitting (a : NegationAnswer) : Type 0 where
-  pub left : a.constraint.left < 4294967296
-  pub target : target_operand a.constraint.right < 4294967296
+-- a size limit without an operator, one with, and every other kind
+module _ (k l t n x : ℕ) (z : ℤ) where
+  pub numbers_refused : k ≡ 6 → has_operator x z ≡ false → refused_numbers 9 ≡ negation_numbers (negation_of (constraint_of k l t n x z))
+  numbers_refused e h = sym (ap negation_numbers (negation_refused_lem k l t n x z e h))
 
-limit_fits : (c : Constraint) (x : ConstraintExtra) → c.left < 4294967296 → target_operand c.right < 4294967296 → Fitting (size_limit_negation c x)
-limit_fits c Extra.None h k = record { left = omega arith; target = omega arith }
-limit_fits c (Extra.Offset z) h k = record { left = omega arith; target = omega arith }
-limit_fits c (Extra.SlotSizeLimitOp o) h k = record { left = h; target = k }
+  pub numbers_limit : k ≡ 6 → has_operator x z ≡ true → negated_numbers 6 l t n 2 (extra_operand (negated_extra (operator_of z))) ≡ negation_numbers (negation_of (constraint_of k l t n x z))
+  unfolding kind_of
+  numbers_limit e h = sym (ap negation_numbers (negation_limit k l t n x z e h) ∙ rw (case_is t n, operand_is t n, negated_case_is x z h))
 
-target_fits : (t n : ℕ) → n < 4294967296 → target_operand (target_of t n) < 4294967296
-target_fits t n h = rw operand_is (bool_cases (is_target t) (λ e. rw e h) (λ e. rw e (omega arith)))
-
-pub negation_fits : (k l t n x : ℕ) (z : ℤ) → l < 4294967296 → n < 4294967296 → Fitting (negation_of (constraint_of k l t n x z))
-unfolding negation_of
-negation_fits k l t n x z h g =
-    let c = constraint_of k l t n x z in
-    bool_cases (is_size_limit (kind_of k)) (λ e. rw e (limit_fits c c.extra h (target_fits t n g))) (λ e. rw e (record { left = h; target = target_fits t n g }))
+  pub numbers_else : (k ≡ 6 → ⊥) → negated_numbers (kind_number (negated_kind (kind_of k))) l t n (cond (has_extra x z) x 0) (cond (has_extra x z) z (pos 0)) ≡ negation_numbers (negation_of (constraint_of k l t n x z))
+  numbers_else h = sym (ap negation_numbers (negation_else k l t n x z h) ∙ rw (case_is t n, operand_is t n, extra_case_is x z, extra_operand_is x z))

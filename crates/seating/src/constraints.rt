@@ -1,13 +1,11 @@
 // The entries over constraint.rs.
-ghost use Rattle.std.specs.Prelude.{◌≡◌};
+ghost use Rattle.std.specs.Prelude.{◌≡◌, cond, pos};
 ghost use Rattle.constraint.specs.Kind.{kind_of, is_valid, is_scheduling, is_assignment};
 ghost use Rattle.constraint.specs.Negation.{negation_of, constraint_of};
-ghost use Rattle.constraint.specs.Answered.{negation_answered};
-ghost use Rattle.seating.specs.Constraints.{negation_numbers};
-ghost use Rattle.seating.specs.ConstraintsLaws.{Fitting};
+ghost use Rattle.seating.specs.Constraints.{negation_numbers, refused_numbers, negated_numbers};
 
-use constraint::{Constraint, ConstraintType};
-use refusal::Refusal;
+use crate::numbers;
+use constraint::ConstraintType;
 
 #[repr(C)]
 #[derive(Clone, Copy, Debug)]
@@ -21,30 +19,52 @@ pub struct NegationNumbers {
     pub extra: i32,
 }
 
-// A negation's answer in numbers, or the refusal's and zeros.
-fn numbers_of(answer: Result<Constraint, Refusal>) -> NegationNumbers
-    requires { Fitting (negation_answered answer) }
-    ensures { result ≡ negation_numbers (negation_answered answer) }
+fn refuse(number: u32) -> NegationNumbers
+    ensures { result ≡ refused_numbers number }
 {
-    match answer {
-        Ok(negated) => NegationNumbers {
-            number: 0,
-            kind: u32::from(negated.kind),
-            left: negated.left as u32,
-            target_case: negated.right.case(),
-            target: negated.right.operand() as u32,
-            extra_case: negated.extra.case(),
-            extra: negated.extra.operand(),
-        },
-        Err(refusal) => NegationNumbers {
-            number: u32::from(refusal),
-            kind: 0,
-            left: 0,
-            target_case: 0,
-            target: 0,
-            extra_case: 0,
-            extra: 0,
-        },
+    NegationNumbers {
+        number,
+        kind: 0,
+        left: 0,
+        target_case: 0,
+        target: 0,
+        extra_case: 0,
+        extra: 0,
+    }
+}
+
+fn keep(test: bool, n: u32) -> u32
+    ensures { result ≡ cond test n 0 }
+{
+    if test { n } else { 0 }
+}
+
+fn keep_signed(test: bool, n: i32) -> i32
+    ensures { result ≡ cond test n (pos 0) }
+{
+    if test { n } else { 0 }
+}
+
+// A negation: the kind and the extra are new, and left and target are kept.
+fn negated_with(
+    kind: u32,
+    left: u32,
+    target_case: u32,
+    target: u32,
+    extra_case: u32,
+    extra: i32,
+) -> NegationNumbers
+    ensures { result ≡ negated_numbers kind left target_case target extra_case extra }
+{
+    let there = numbers::is_target(target_case);
+    NegationNumbers {
+        number: 0,
+        kind,
+        left,
+        target_case: keep(there, target_case),
+        target: keep(there, target),
+        extra_case,
+        extra,
     }
 }
 
@@ -59,8 +79,22 @@ pub extern "C" fn cendravoka_negation(
 ) -> NegationNumbers
     ensures { result ≡ negation_numbers (negation_of (constraint_of kind left target_case target extra_case extra)) }
 {
-    let given = Constraint::of(kind, left, target_case, target, extra_case, extra);
-    numbers_of(given.negation())
+    if kind == 6 {
+        if numbers::has_operator(extra_case, extra) {
+            let operator = numbers::negated_operator(extra);
+            return negated_with(6, left, target_case, target, 2, operator);
+        }
+        return refuse(9);
+    }
+    let there = numbers::has_extra(extra_case, extra);
+    negated_with(
+        numbers::negated_kind(kind),
+        left,
+        target_case,
+        target,
+        keep(there, extra_case),
+        keep_signed(there, extra),
+    )
 }
 
 #[unsafe(no_mangle)]
