@@ -1,4 +1,5 @@
 -- assignment.rs: plans, check 13, a chooser's choices.
 pub mod Plan
 pub mod Calls
+pub mod Answered
 pub mod Laws

@@ -1,7 +1,7 @@
 -- A table of blocks, as the code fills it. Assumes nothing.
-use Rattle.std.specs.Prelude.{ℕ, ◌+◌, ◌<◌, ◌≤◌, ◌/◌, ◌%◌, ◌≡◌, refl, Bool, true, false, not, ◌&&◌, ◌||◌, ◌≢◌, ◌⊎◌, List, eqb, ltb, length, get_or, set, replicate}
-use Rattle.std.proofs.Common.{sym, ap, ap₂, ◌∙◌, inl, inr, div-add-mod', arith, length-set, ext_get_or, get_or-set_same, get_or-set_other, eq-eqb, ne_eqb, lt-ltb, le-ltb}
-use Rattle.std.proofs.Math.Bool.{and-true, and-false, or-true, or-false}
+use Rattle.std.specs.Prelude.{ℕ, ◌+◌, ◌<◌, ◌≤◌, ◌/◌, ◌%◌, ◌≡◌, refl, Bool, true, false, not, ◌&&◌, ◌||◌, ◌⊎◌, List, eqb, ltb, length, get_or, set, replicate}
+use Rattle.std.proofs.Common.{sym, ap, ap₂, ◌∙◌, inl, inr, div-add-mod', arith, length-set, ext_get_or, get_or-set_same, get_or-set_other, eq-eqb, lt-ltb, le-ltb}
+use Rattle.std.proofs.Math.Bool.{or-false}
 use Rattle.std.proofs.lemmas.List.{get_or-replicate}
 use Rattle.counting.specs.Fold.{any_to, table_to}
 use Rattle.counting.specs.FoldLaws.{fold_none}
@@ -9,12 +9,11 @@ use Rattle.counting.specs.Lists.{length_table, table_at}
 use Rattle.counting.specs.Tests.{bool_cases, eq_cases, lt_cases, any_more, below_any}
 use Rattle.constraint.specs.Kind.{kind_number}
 use Rattle.constraint.specs.Cases.{target_operand}
-use Rattle.input_data.specs.Bytes.{numbers_in, day_of}
-use Rattle.input_data.specs.BytesLaws.{numbers_of, assignment_list_of}
-use Rattle.input_data.specs.Day.{constraint_of_numbers, constraint_at}
+use Rattle.constraint.specs.declared.Constraint.{Constraint}
+use Rattle.input_data.specs.Day.{constraint_at}
 use Rattle.input_data.specs.declared.ConstraintList.{ConstraintList}
 use Rattle.scheduling.specs.Schedule.{entry_at}
-use Rattle.blocks.specs.Blocks.{blocks_choice, blocks_by, blocks_at, blocked_by, cell}
+use Rattle.blocks.specs.Blocks.{blocks_by, blocks_at, blocked_by, cell}
 
 -- what is blocked for one chooser
 abbrev pub shares : List ℕ → ℕ → ℕ → Bool
@@ -22,9 +21,6 @@ shares sch x k = eqb (entry_at sch k) (entry_at sch x) && not (eqb k x)
 
 abbrev pub beside_for : List ℕ → ℕ → ℕ → ℕ → ℕ → Bool
 beside_for sch chooser x c k = eqb c chooser && shares sch x k
-
-abbrev pub blocks_for : ℕ → List ℕ → ℕ → ℕ → ℕ → ℕ → Bool
-blocks_for kind sch chooser x c k = eqb c chooser && blocks_choice kind sch x k
 
 -- a table of blocks that was b before and in which g is blocked too now
 pub record Blocked (g : ℕ → ℕ → Bool) (b b' : List Bool) : Type 0 where
@@ -98,9 +94,6 @@ blocked_then {g = g} {h = h} {b = b} p q = record {
 abbrev pub so_far : ℕ → (ℕ → Bool) → ℕ → ℕ → ℕ → Bool
 so_far chooser r i c k = eqb c chooser && (ltb k i && r k)
 
-pub row_none : (chooser : ℕ) (r : ℕ → Bool) (b : List Bool) → Blocked (so_far chooser r 0) b b
-row_none chooser r b = blocked_none (λ c k x y. rw (le-ltb k 0 (omega arith)) (and-false (eqb c chooser)))
-
 pub row_more : {chooser : ℕ} (r : ℕ → Bool) {i : ℕ} {b b' : List Bool} {t : Bool} → Blocked (so_far chooser r i) b b' → length b ≡ 2048 → chooser < 64 → i < 32 → t ≡ r i → Blocked (so_far chooser r (i + 1)) b (set b' (cell chooser i) (get_or b' (cell chooser i) false || t))
 row_more {chooser = chooser} r {i = i} {b' = b'} {t = t} p n hc hi e =
     blocked_ext (λ c k x y. bool_cases (eqb c chooser) (λ q. rw q (step k)) (λ q. rw q))
@@ -113,52 +106,27 @@ row_more {chooser = chooser} r {i = i} {b' = b'} {t = t} p n hc hi e =
         (λ l w. rw (w, lt-ltb k (i + 1) (omega arith)))
         (λ l w. rw (w, le-ltb k (i + 1) (omega arith)))))
 
-pub row_all : (chooser : ℕ) (r : ℕ → Bool) {i : ℕ} {b b' : List Bool} → i ≡ 32 → Blocked (so_far chooser r i) b b' → Blocked (λ c k. eqb c chooser && r k) b b'
-row_all chooser r e p = blocked_ext (λ c k x y. rw (e, lt-ltb k 32 y)) p
-
--- ---- what one constraint blocks
-
-module _ (sch : List ℕ) (chooser x : ℕ) where
-  pub by_is_in : {kind : ℕ} {b b' : List Bool} → kind ≡ 65537 → entry_at sch x ≢ 0 → Blocked (beside_for sch chooser x) b b' → Blocked (blocks_for kind sch chooser x) b b'
-  by_is_in e d p = blocked_ext (λ c k hc hk. ap (λ (t : Bool). eqb c chooser && t) (rw (e, ne_eqb (entry_at sch x) 0 d) (sym (or-false (shares sch x k))))) p
-
-  pub by_unscheduled : {kind : ℕ} {b : List Bool} → kind ≡ 65537 → entry_at sch x ≡ 0 → Blocked (blocks_for kind sch chooser x) b b
-  by_unscheduled e d = blocked_none (λ c k hc hk. rw (e, eq-eqb (entry_at sch x) 0 d) (and-false (eqb c chooser)))
-
-  pub by_is_not_in : {kind : ℕ} {b : List Bool} → kind ≡ 65538 → length b ≡ 2048 → (chooser < 64) × (x < 32) → Blocked (blocks_for kind sch chooser x) b (set b (cell chooser x) true)
-  by_is_not_in {b = b} e n h =
-      rw (← or-true (get_or b (cell chooser x) false)) (blocked_ext
-      (λ c k hc hk. ap (λ (t : Bool). eqb c chooser && t) (rw e (and-true (eqb k x))))
-      (blocked_one b chooser x true n h.0 h.1))
-
-  pub by_other : {kind : ℕ} {b : List Bool} → kind ≢ 65537 → kind ≢ 65538 → Blocked (blocks_for kind sch chooser x) b b
-  by_other {kind = kind} d e = blocked_none (λ c k hc hk. rw (ne_eqb kind 65537 d, ne_eqb kind 65538 e) (and-false (eqb c chooser)))
-
 -- ---- what a list of constraints blocks
 
 pub blockable : {l : ConstraintList} → Blocking l → (j : ℕ) → j < l.count → (b : List Bool) → length b ≡ 2048 → Blockable (kind_number (constraint_at l j).kind) (constraint_at l j).left (target_operand (constraint_at l j).right) b
 blockable h j c b n = record { long = n; is_in = λ e. h.each j c (inl e); is_not_in = λ e. h.each j c (inr e) }
 
--- an assignment constraint of a day, where it stands in the day's bytes
-pub constraint_in : (b : List ℕ) (j : ℕ) → j < 32 → constraint_of_numbers (numbers_in b 1276 j) ≡ constraint_at (day_of b).assignment j
-constraint_in b j h = ap constraint_of_numbers (sym (numbers_of b (day_of b).assignment.count 1276 j h)) ∙ ap (λ l. constraint_at l j) (assignment_list_of b)
-
 -- the constraints below j
 abbrev pub blocked_to : ConstraintList → List ℕ → ℕ → ℕ → ℕ → Bool
 blocked_to l sch j c k = any_to j (blocks_at l sch c k)
 
-pub blocks_none : (l : ConstraintList) (sch : List ℕ) (b : List Bool) → length b ≡ 2048 → ((p : ℕ) → p < 2048 → get_or b p false ≡ false) → Blocks (blocked_to l sch 0) b
-blocks_none l sch b n h = record { long = n; at = λ c k x y. h (cell c k) (cell_in c k x y) ∙ sym (fold_none ◌||◌ false (blocks_at l sch c k)) }
+pub blocks_none : {l : ConstraintList} {b : List Bool} (sch : List ℕ) → Unfilled l b → Blocks (blocked_to l sch 0) b
+blocks_none {l = l} sch h = record { long = h.long; at = λ c k x y. h.none (cell c k) (cell_in c k x y) ∙ sym (fold_none ◌||◌ false (blocks_at l sch c k)) }
 
-pub blocks_more : (l : ConstraintList) (sch : List ℕ) (j : ℕ) {b b' : List Bool} → Blocks (blocked_to l sch j) b → Blocked (blocks_by (constraint_at l j) sch) b b' → Blocks (blocked_to l sch (j + 1)) b'
-blocks_more l sch j p q = record {
+pub blocks_more : (l : ConstraintList) (sch : List ℕ) (j : ℕ) {con : Constraint} {b b' : List Bool} → Blocks (blocked_to l sch j) b → con ≡ constraint_at l j → Blocked (blocks_by con sch) b b' → Blocks (blocked_to l sch (j + 1)) b'
+blocks_more l sch j p e q = record {
   long = q.long ∙ p.long;
-  at = λ c k x y. q.at c k x y ∙ any_more j (blocks_at l sch c k) (p.at c k x y) refl;
+  at = λ c k x y. q.at c k x y ∙ any_more j (blocks_at l sch c k) (p.at c k x y) (ap (λ t. blocks_by t sch c k) e);
 }
 
-pub blocks_all : (l : ConstraintList) (sch : List ℕ) (j : ℕ) {b : List Bool} → l.count ≤ 32 → j ≡ l.count → Blocks (blocked_to l sch j) b → Blocks (blocked_by l sch) b
+pub blocks_all : (l : ConstraintList) (sch : List ℕ) {j : ℕ} {b : List Bool} → l.count ≤ 32 → j ≡ l.count → Blocks (blocked_to l sch j) b → Blocks (blocked_by l sch) b
 unfolding blocked_by
-blocks_all l sch j h e p = record { long = p.long; at = λ c k x y. p.at c k x y ∙ ap (λ n. blocked_to l sch n c k) e ∙ sym (below_any 32 l.count (blocks_at l sch c k) h) }
+blocks_all l sch h e p = record { long = p.long; at = λ c k x y. p.at c k x y ∙ ap (λ n. blocked_to l sch n c k) e ∙ sym (below_any 32 l.count (blocks_at l sch c k) h) }
 
 -- the table, place by place
 pub blocks_table : (f : ℕ → ℕ → Bool) (b : List Bool) → Blocks f b → b ≡ table_to 2048 (λ p. f (p / 32) (p % 32))

@@ -4,11 +4,11 @@
 ghost use Rattle.std.specs.Prelude.{◌≡◌, ◌<◌, length};
 ghost use Rattle.constraint.specs.Kind.{kind_number};
 ghost use Rattle.constraint.specs.Cases.{target_operand};
-ghost use Rattle.input_data.specs.Bytes.{IsDay, day_of};
-ghost use Rattle.blocks.specs.BlocksLaws.{beside_for, blocks_for, Blocked, Blocks, Blockable, Unfilled};
+ghost use Rattle.blocks.specs.BlocksLaws.{beside_for, Blocked, Blocks, Blockable, Unfilled};
 ghost use Rattle.blocks.specs.Blocks.{blocks_by, blocked_by};
 
-use constraint::Constraint;
+use constraint::{Constraint, ConstraintType};
+use input_data::Day;
 
 // The choices beside choice x in its slot are blocked for a chooser. x has a slot.
 fn block_beside(blocks: &mut [bool; 2048], entries: &[u8; 32], chooser: usize, x: usize)
@@ -23,39 +23,30 @@ fn block_beside(blocks: &mut [bool; 2048], entries: &[u8; 32], chooser: usize, x
 }
 
 // What one constraint blocks. Only two kinds block anything.
-fn block_by(blocks: &mut [bool; 2048], entries: &[u8; 32], kind: u32, chooser: usize, x: usize)
-    requires { Blockable kind chooser x blocks.old }
-    ensures { Blocked (blocks_for kind entries.now chooser x) blocks.old blocks.new }
-{
-    if kind == 65537 {
-        if entries[x] != 0 {
-            block_beside(blocks, entries, chooser, x);
-        }
-    } else if kind == 65538 {
-        blocks[32 * chooser + x] = true;
-    }
-}
-
 fn block_constraint(blocks: &mut [bool; 2048], entries: &[u8; 32], c: Constraint)
     requires { Blockable (kind_number c.kind) c.left (target_operand c.right) blocks.old }
     ensures { Blocked (blocks_by c entries.now) blocks.old blocks.new }
 {
-    block_by(
-        blocks,
-        entries,
-        u32::from(c.kind),
-        c.left,
-        c.right.operand(),
-    );
+    let x = c.right.operand();
+    match c.kind {
+        ConstraintType::ChooserIsInChoice => {
+            if entries[x] != 0 {
+                block_beside(blocks, entries, c.left, x);
+            }
+        }
+        ConstraintType::ChooserIsNotInChoice => blocks[32 * c.left + x] = true,
+        _ => {}
+    }
 }
 
 // The blocks of a schedule, in a table in which nothing is blocked yet: what each assignment constraint blocks.
-pub fn fill_blocks(blocks: &mut [bool; 2048], day: &[u8], entries: &[u8; 32])
-    requires { IsDay day.now × Unfilled (day_of day.now).assignment blocks.old }
-    ensures { Blocks (blocked_by (day_of day.now).assignment entries.now) blocks.new }
+pub fn fill_blocks(blocks: &mut [bool; 2048], day: &Day, entries: &[u8; 32])
+    requires { Unfilled day.now.assignment blocks.old }
+    ensures { Blocks (blocked_by day.now.assignment entries.now) blocks.new }
 {
-    for j in 0..input_data::assignment_count(day) {
-        let c = Constraint::from(input_data::numbers_at(day, 1276, j));
-        block_constraint(blocks, entries, c);
+    let assignment = day.assignment();
+    for j in 0..assignment.count() {
+        let constraint = Constraint::from(assignment.get(j));
+        block_constraint(blocks, entries, constraint);
     }
 }

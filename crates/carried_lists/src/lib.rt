@@ -5,88 +5,67 @@
 ghost use Rattle.std.specs.Prelude.{length};
 ghost use Rattle.slot_lists.specs.WalkLaws.{Departs, Departed, Arrives, Arrived, Visits, Visited, Carries, ListsCarried};
 
+use scheduling::slot_in;
+use slot_lists::{SlotSums, enter, leave};
+
 // A choice leaves the list of the slot that its entry names, and that slot's sums.
-fn depart(
-    lists: &mut [u8],
-    lens: &mut [u32; 8],
-    covered: &mut [u32; 8],
-    stride: usize,
-    entry: u8,
-    choice: u8,
-    min: u32,
-)
-    requires { Departs stride entry min (length lists.old) lens.old covered.old }
-    ensures { Departed stride entry choice min lists.old lens.old covered.old lists.new lens.new covered.new }
+fn depart(lists: &mut [u8], sums: &mut SlotSums, stride: usize, entry: u8, choice: u8, min: u32)
+    requires { Departs stride entry min (length lists.old) sums.old }
+    ensures { Departed stride entry choice min lists.old sums.old lists.new sums.new }
 {
-    if entry == 0 {
-        return;
+    if let Some(slot) = slot_in(entry) {
+        leave(lists, stride, slot, sums.lens[slot] as usize, choice);
+        sums.lens[slot] -= 1;
+        sums.covered[slot] -= min;
     }
-    let slot = entry as usize - 1;
-    slot_lists::leave(lists, stride, slot, lens[slot] as usize, choice);
-    lens[slot] -= 1;
-    covered[slot] -= min;
 }
 
 // A choice joins the list of the slot that its entry names, and that slot's sums.
-fn arrive(
-    lists: &mut [u8],
-    lens: &mut [u32; 8],
-    covered: &mut [u32; 8],
-    stride: usize,
-    entry: u8,
-    choice: u8,
-    min: u32,
-)
-    requires { Arrives stride entry min (length lists.old) lens.old covered.old }
-    ensures { Arrived stride entry choice min lists.old lens.old covered.old lists.new lens.new covered.new }
+fn arrive(lists: &mut [u8], sums: &mut SlotSums, stride: usize, entry: u8, choice: u8, min: u32)
+    requires { Arrives stride entry min (length lists.old) sums.old }
+    ensures { Arrived stride entry choice min lists.old sums.old lists.new sums.new }
 {
-    if entry == 0 {
-        return;
+    if let Some(slot) = slot_in(entry) {
+        enter(lists, stride, slot, sums.lens[slot] as usize, choice);
+        sums.lens[slot] += 1;
+        sums.covered[slot] += min;
     }
-    let slot = entry as usize - 1;
-    slot_lists::enter(lists, stride, slot, lens[slot] as usize, choice);
-    lens[slot] += 1;
-    covered[slot] += min;
 }
 
 // A visit of one choice: nothing where old and new slot agree.
 fn visit(
     lists: &mut [u8],
-    lens: &mut [u32; 8],
-    covered: &mut [u32; 8],
+    sums: &mut SlotSums,
     stride: usize,
     last: u8,
     next: u8,
     choice: u8,
     min: u32,
 )
-    requires { Visits stride last next min (length lists.old) lens.old covered.old }
-    ensures { Visited stride last next choice min lists.old lens.old covered.old lists.new lens.new covered.new }
+    requires { Visits stride last next min (length lists.old) sums.old }
+    ensures { Visited stride last next choice min lists.old sums.old lists.new sums.new }
 {
     if last == next {
         return;
     }
-    depart(lists, lens, covered, stride, last, choice, min);
-    arrive(lists, lens, covered, stride, next, choice, min);
+    depart(lists, sums, stride, last, choice, min);
+    arrive(lists, sums, stride, next, choice, min);
 }
 
 // The walk: every choice is visited, upward.
 pub fn carry<'a>(
     lists: &mut [u8],
-    lens: &mut [u32; 8],
-    covered: &mut [u32; 8],
+    sums: &mut SlotSums,
     stride: usize,
     n: usize,
     last: &'a [u8; 32],
     next: &'a [u8; 32],
     mins: &'a [u32; 32],
 )
-    requires { Carries stride n last.now next.now mins.now (length lists.old) lens.old covered.old }
-    ensures { ListsCarried stride n last.now next.now mins.now lists.old lists.new lens.new covered.new }
+    requires { Carries stride n last.now next.now mins.now (length lists.old) sums.old }
+    ensures { ListsCarried stride n last.now next.now mins.now lists.old lists.new sums.new }
 {
     for i in 0..n {
-        visit(
-            lists, lens, covered, stride, last[i], next[i], i as u8, mins[i],
-        );
+        visit(lists, sums, stride, last[i], next[i], i as u8, mins[i]);
     }
 }

@@ -1,7 +1,8 @@
 -- The first half of demand 3: what is carried from schedule to schedule agrees with a fresh build. SPEC 5.16, 12.1 to 12.3.
 -- Statement only; the proof is `carried_agrees` in proofs/CarriedAgrees.antt.
 --
--- It rests on the contracts of `build` and `update` in schedule_updates' src/state.rt, the promises Built and Updated of schedule_state's Calls.antt, which cite the definitions used here:
+-- It rests on the contracts of `build` and `update` in schedule_updates' src/state.rt, the promises Built and Updated of schedule_state's Calls.antt, which cite the definitions used here.
+-- They speak of a call's result as C is given it, a number and a state (`state_answered` of schedule_state's Answered.antt):
 --   build    gives build_number, and where that is 0 the state built_state and the slot lists built_lists
 --   update   gives update_number, and where that is 0 the state updated_state and the slot lists updated_lists
 -- both within limits, of the day, state and schedule that the lent bytes stand for, where all bytes have their lengths

@@ -30,13 +30,6 @@ pub fn same(a: i32, b: i32) -> bool
     a == b
 }
 
-// n, or the most that there may be.
-pub fn at_most(most: usize, n: usize) -> usize
-    ensures { result ≡ min n most }
-{
-    n.min(most)
-}
-
 // Whether one of 0, 1, .., n - 1 passes a test. No early exit, so that the walk is quick.
 pub fn any_below<F: Fn(usize) -> bool>(n: usize, test: F) -> bool
     requires { TakesBelow (F.pre test) n }

@@ -3,100 +3,57 @@
 
 mod pairs;
 
-ghost use Rattle.std.specs.Prelude.{◌≤◌, length};
-ghost use Rattle.scheduling.specs.Schedule.{entry_at};
-ghost use Rattle.slot_lists.specs.Lists.{listed};
+ghost use Rattle.std.specs.Prelude.{◌≡◌, ◌≤◌};
+ghost use Rattle.slot_lists.specs.Parts.{list_length, list_entry};
+ghost use Rattle.model_buffers.specs.Stored.{groups_with};
 ghost use Rattle.mip_flow.specs.IndexLaws.{number_at};
 ghost use Rattle.edge_groups.specs.Grouping.{Dependent, Grouping};
-ghost use Rattle.edge_groups.specs.Groups.{marks};
-ghost use Rattle.edge_groups.specs.Lent.{Stores, HasRoom};
+ghost use Rattle.edge_groups.specs.Groups.{Room};
+ghost use Rattle.edge_groups.specs.Lent.{Stores};
 ghost use Rattle.edge_groups.specs.Names.{dependent_names, names};
 
 use dependent_groups::put_group;
-use edge_groups::Marks;
-use input_data::{ConstraintList, Sizes};
+use input_data::{Day, Sizes};
+use mip_flow::EdgeIndex;
+use model_buffers::Groups;
 use pairs::put_constraints;
+use slot_lists::SlotLists;
 
 // All dependent groups, one after the other.
-fn put_dependent<'a>(
-    n: usize,
+fn put_dependent(
     sizes: Sizes,
-    index: &[u16; 2048],
     schedule: &[u8; 32],
-    groups: usize,
-    lengths: &'a [u32; 16],
-    members: &'a [u32; 32],
-    entries: &mut [u16],
-    ends: &mut [u16],
-    blocked: &mut [u16],
-    at: Marks,
-) -> Marks
-    requires { (n ≤ 2080) × Dependent sizes groups lengths.now members.now × HasRoom entries ends blocked at 2048 1024 }
-    ensures { Stores n entries ends blocked at (dependent_names (number_at index.now) sizes schedule.now groups lengths.now members.now) result }
+    day: &Day,
+    index: &EdgeIndex,
+    groups: &mut Groups,
+)
+    requires { (sizes.choosers ≤ 64) × Dependent day.now × Room groups.old 2048 1024 }
+    ensures { Stores index.now.count (dependent_names (number_at index.now.numbers) sizes schedule.now day.now.groups day.now.lengths day.now.members) groups }
 {
-    let mut to = at;
+    let members: [u32; 32] = counting::table(0, |i| day.member(i));
     let mut start = 0;
-    for g in 0..groups {
-        let len = lengths[g] as usize;
-        to = put_group(
-            n, sizes, index, schedule, members, start, len, entries, ends, blocked, to,
-        );
-        start += len;
+    for g in 0..day.groups() {
+        let end = start + day.group_length(g) as usize;
+        put_group(sizes, index, schedule, &members[start..end], groups);
+        start = end;
     }
-    to
 }
 
 // Stores the groups and the blocked edges of a state: those that constraints name, then those of
-// dependent groups. The table gives each edge's number, which is below n if the edge is there.
-pub fn put_groups<'a>(
-    n: usize,
+// dependent groups.
+pub fn put_groups(
     sizes: Sizes,
-    index: &[u16; 2048],
-    lists: &[u8],
-    lens: &[u32; 8],
-    entries: &[u8; 32],
-    assignment: ConstraintList,
-    groups: usize,
-    lengths: &'a [u32; 16],
-    members: &'a [u32; 32],
-    group_entries: &mut [u16],
-    ends: &mut [u16],
-    blocked: &mut [u16],
-) -> Marks
-    requires { Grouping n sizes lists.now lens.now assignment groups lengths.now members.now
-        (length group_entries.old) (length ends.old) (length blocked.old) }
-    ensures { Stores n group_entries ends blocked (marks 0 0 0)
-        (names (number_at index.now) sizes entries.now (entry_at lens.now) (listed sizes.stride lists.now)
-        assignment groups lengths.now members.now) result }
+    schedule: &[u8; 32],
+    day: &Day,
+    index: &EdgeIndex,
+    lists: &SlotLists,
+    groups: &mut Groups,
+)
+    requires { Grouping sizes lists.now day.now groups.old }
+    ensures stores { Stores index.now.count (names (number_at index.now.numbers) sizes schedule.now (list_length lists.now) (list_entry lists.now)
+        day.now.assignment day.now.groups day.now.lengths day.now.members) groups }
+    ensures same { groups.new ≡ groups_with groups.old groups.new }
 {
-    let none = Marks {
-        entries: 0,
-        groups: 0,
-        blocked: 0,
-    };
-    let at = put_constraints(
-        n,
-        sizes,
-        index,
-        lists,
-        lens,
-        assignment,
-        group_entries,
-        ends,
-        blocked,
-        none,
-    );
-    put_dependent(
-        n,
-        sizes,
-        index,
-        entries,
-        groups,
-        lengths,
-        members,
-        group_entries,
-        ends,
-        blocked,
-        at,
-    )
+    put_constraints(sizes, index, lists, &day.assignment(), groups);
+    put_dependent(sizes, schedule, day, index, groups);
 }

@@ -1,145 +1,87 @@
 // ChoosersHaveSameChoices: for each slot and listed choice, the edges of two choosers.
-ghost use Rattle.std.specs.Prelude.{◌*◌, ◌<◌, ◌≤◌, length};
-ghost use Rattle.scheduling.specs.Schedule.{entry_at};
-ghost use Rattle.slot_lists.specs.Lists.{listed};
+ghost use Rattle.std.specs.Prelude.{◌*◌, ◌<◌};
+ghost use Rattle.slot_lists.specs.Parts.{list_length, list_entry, Listed};
 ghost use Rattle.mip_flow.specs.IndexLaws.{number_at};
-ghost use Rattle.edge_groups.specs.Grouping.{Choices, Listed, NamesChoosers, Constraints};
-ghost use Rattle.edge_groups.specs.Lent.{Stores, HasRoom};
-ghost use Rattle.edge_groups.specs.Names.{slot_names, slot_names_at, same_choices_names, constraint_names, constraints_names};
+ghost use Rattle.edge_groups.specs.Grouping.{NamesChoosers, ListNamesChoosers};
+ghost use Rattle.edge_groups.specs.Groups.{Room};
+ghost use Rattle.edge_groups.specs.Lent.{Stores};
+ghost use Rattle.edge_groups.specs.Names.{slot_names_at, same_choices_names, constraint_names, constraints_names};
 
-use constraint::Constraint;
-use edge_groups::{Marks, put_choice};
-use input_data::{ConstraintList, Sizes};
-
-// The edges of choosers a and b to the choices of a slot's list.
-fn put_list(
-    n: usize,
-    index: &[u16; 2048],
-    part: &[u8],
-    a: usize,
-    b: usize,
-    entries: &mut [u16],
-    ends: &mut [u16],
-    blocked: &mut [u16],
-    at: Marks,
-) -> Marks
-    requires { (n ≤ 2080) × (a < 64) × (b < 64) × Choices part.now × HasRoom entries ends blocked at (length part.now * 2) (length part.now) }
-    ensures { Stores n entries ends blocked at (slot_names (number_at index.now) a b (length part.now) (entry_at part.now)) result }
-{
-    let mut to = at;
-    for k in part {
-        to = put_choice(n, index, a, b, *k as usize, entries, ends, blocked, to);
-    }
-    to
-}
+use constraint::{Constraint, ConstraintType};
+use edge_groups::put_pair;
+use input_data::{Constraints, Sizes};
+use mip_flow::EdgeIndex;
+use model_buffers::Groups;
+use slot_lists::SlotLists;
 
 // The edges of choosers a and b to the choices of slot s.
 fn put_slot(
-    n: usize,
     sizes: Sizes,
-    index: &[u16; 2048],
-    lists: &[u8],
-    lens: &[u32; 8],
+    index: &EdgeIndex,
+    lists: &SlotLists,
     a: usize,
     b: usize,
     s: usize,
-    entries: &mut [u16],
-    ends: &mut [u16],
-    blocked: &mut [u16],
-    at: Marks,
-) -> Marks
-    requires { (n ≤ 2080) × (a < 64) × (b < 64) × (s < sizes.slots) × Listed sizes lists.now lens.now
-        × HasRoom entries ends blocked at (entry_at lens.now s * 2) (entry_at lens.now s) }
-    ensures { Stores n entries ends blocked at (slot_names_at (number_at index.now) (entry_at lens.now) (listed sizes.stride lists.now) a b s) result }
+    groups: &mut Groups,
+)
+    requires { (a < 64) × (b < 64) × (s < sizes.slots) × Listed sizes.slots 32 lists.now
+        × Room groups.old (list_length lists.now s * 2) (list_length lists.now s) }
+    ensures { Stores index.now.count (slot_names_at (number_at index.now.numbers) (list_length lists.now) (list_entry lists.now) a b s) groups }
 {
-    let part = schedule_state::list_front(lists, sizes.stride, s, lens[s] as usize);
-    put_list(n, index, part, a, b, entries, ends, blocked, at)
+    let list = lists.list(s);
+    for k in list {
+        put_pair(index, a, b, *k as usize, groups);
+    }
 }
 
 // The edges of choosers a and b, slot by slot.
 fn put_same_choices(
-    n: usize,
     sizes: Sizes,
-    index: &[u16; 2048],
-    lists: &[u8],
-    lens: &[u32; 8],
+    index: &EdgeIndex,
+    lists: &SlotLists,
     a: usize,
     b: usize,
-    entries: &mut [u16],
-    ends: &mut [u16],
-    blocked: &mut [u16],
-    at: Marks,
-) -> Marks
-    requires { (n ≤ 2080) × (a < 64) × (b < 64) × Listed sizes lists.now lens.now × HasRoom entries ends blocked at 64 32 }
-    ensures { Stores n entries ends blocked at
-        (same_choices_names (number_at index.now) sizes (entry_at lens.now) (listed sizes.stride lists.now) a b) result }
+    groups: &mut Groups,
+)
+    requires { (a < 64) × (b < 64) × Listed sizes.slots 32 lists.now × Room groups.old 64 32 }
+    ensures { Stores index.now.count (same_choices_names (number_at index.now.numbers) sizes (list_length lists.now) (list_entry lists.now) a b) groups }
 {
-    let mut to = at;
     for s in 0..sizes.slots {
-        to = put_slot(
-            n, sizes, index, lists, lens, a, b, s, entries, ends, blocked, to,
-        );
+        put_slot(sizes, index, lists, a, b, s, groups);
     }
-    to
 }
 
 // What a constraint names. Only one kind names edges.
 fn put_constraint(
-    n: usize,
     sizes: Sizes,
-    index: &[u16; 2048],
-    lists: &[u8],
-    lens: &[u32; 8],
+    index: &EdgeIndex,
+    lists: &SlotLists,
     c: Constraint,
-    entries: &mut [u16],
-    ends: &mut [u16],
-    blocked: &mut [u16],
-    at: Marks,
-) -> Marks
-    requires { (n ≤ 2080) × NamesChoosers c × Listed sizes lists.now lens.now × HasRoom entries ends blocked at 64 32 }
-    ensures { Stores n entries ends blocked at
-        (constraint_names (number_at index.now) sizes (entry_at lens.now) (listed sizes.stride lists.now) c) result }
+    groups: &mut Groups,
+)
+    requires { NamesChoosers c × Listed sizes.slots 32 lists.now × Room groups.old 64 32 }
+    ensures { Stores index.now.count (constraint_names (number_at index.now.numbers) sizes (list_length lists.now) (list_entry lists.now) c) groups }
 {
-    if u32::from(c.kind) != 65539 {
-        return at;
+    match c.kind {
+        ConstraintType::ChoosersHaveSameChoices => {
+            put_same_choices(sizes, index, lists, c.left, c.right.operand(), groups)
+        }
+        _ => {}
     }
-    let b = c.right.operand();
-    put_same_choices(
-        n, sizes, index, lists, lens, c.left, b, entries, ends, blocked, at,
-    )
 }
 
 // What a list of constraints names, constraint by constraint.
 pub fn put_constraints(
-    n: usize,
     sizes: Sizes,
-    index: &[u16; 2048],
-    lists: &[u8],
-    lens: &[u32; 8],
-    list: ConstraintList,
-    entries: &mut [u16],
-    ends: &mut [u16],
-    blocked: &mut [u16],
-    at: Marks,
-) -> Marks
-    requires { (n ≤ 2080) × Constraints list × Listed sizes lists.now lens.now × HasRoom entries ends blocked at 2048 1024 }
-    ensures { Stores n entries ends blocked at
-        (constraints_names (number_at index.now) sizes (entry_at lens.now) (listed sizes.stride lists.now) list) result }
+    index: &EdgeIndex,
+    lists: &SlotLists,
+    list: &Constraints,
+    groups: &mut Groups,
+)
+    requires { ListNamesChoosers list.now × Listed sizes.slots 32 lists.now × Room groups.old 2048 1024 }
+    ensures { Stores index.now.count (constraints_names (number_at index.now.numbers) sizes (list_length lists.now) (list_entry lists.now) list.now) groups }
 {
-    let mut to = at;
-    for j in 0..list.count {
-        to = put_constraint(
-            n,
-            sizes,
-            index,
-            lists,
-            lens,
-            Constraint::from(list.entries[j]),
-            entries,
-            ends,
-            blocked,
-            to,
-        );
+    for j in 0..list.count() {
+        put_constraint(sizes, index, lists, Constraint::from(list.get(j)), groups);
     }
-    to
 }

@@ -1,23 +1,28 @@
-// Checks 8 and 9, of one list of constraints, by the kinds' numbers.
-ghost use Rattle.std.specs.Prelude.{◌≡◌, not, ◌+◌, ◌≤◌, length};
+// Checks 8 and 9, of lists of constraints, by the kinds' numbers.
+ghost use Rattle.std.specs.Prelude.{◌≡◌, ◌&&◌, ◌||◌, ltb, eqb};
 ghost use Rattle.input_data.specs.Checks.{bad_kinds};
 ghost use Rattle.input_data.specs.ByNumber.{extra_by_number, scheduling_by_number, assignment_by_number, bad_scheduling, bad_assignment};
-ghost use Rattle.input_data.specs.Bytes.{list_in};
 
 use constraint::ConstraintExtra;
 use counting::any_of;
-use input_data::{ConstraintNumbers, numbers_at};
+use input_data::{ConstraintNumbers, Constraints, Day};
 
-// 8, of the list of `count` constraints whose entries begin at `at`.
-#[tactic(auto, using(input_data::specs::BytesLaws::numbers_of, input_data::specs::BytesLaws::count_of))]
-pub fn bad_kinds(least: u32, most: u32, day: &[u8], at: usize, count: usize) -> bool
-    requires { at + 768 ≤ length day.now }
-    ensures { result ≡ bad_kinds least most (list_in day.now count at) }
+// 8.
+pub fn bad_kinds(least: u32, most: u32, list: &Constraints) -> bool
+    ensures { result ≡ bad_kinds least most list.now }
 {
-    any_of::<32, _>(count, |i| {
-        let kind = numbers_at(day, at, i).kind;
+    any_of::<32, _>(list.count(), |i| {
+        let kind = list.get(i).kind;
         (kind < least) | (most < kind)
     })
+}
+
+// Whether the operands are those of a kind: the left one below `left`, the target of this case and below `target`,
+// or any number where it is `free`.
+fn operands_fit(c: ConstraintNumbers, left: usize, case: u32, free: bool, target: usize) -> bool
+    ensures { result ≡ (ltb c.left left && (eqb c.target_case case && (free || ltb c.target target))) }
+{
+    ((c.left as usize) < left) & ((c.target_case == case) & (free | ((c.target as usize) < target)))
 }
 
 // Whether the extra is of the case that a scheduling constraint's kind reads.
@@ -28,8 +33,8 @@ fn extra_fits(c: ConstraintNumbers) -> bool
 }
 
 // 9, of a scheduling constraint: 6 limits a slot's size, 1 and 2 have a slot as their target.
-fn bad_scheduling_operand(choices: u32, slots: u32, c: ConstraintNumbers) -> bool
-    ensures { result ≡ not (scheduling_by_number choices slots c) }
+fn scheduling_fits(choices: usize, slots: usize, c: ConstraintNumbers) -> bool
+    ensures { result ≡ scheduling_by_number choices slots c }
 {
     let limited = c.kind == 6;
     let inside = c.kind < 3;
@@ -42,40 +47,32 @@ fn bad_scheduling_operand(choices: u32, slots: u32, c: ConstraintNumbers) -> boo
     } else {
         2
     };
-    !((c.left < left) & ((c.target_case == case) & (limited | (c.target < target))) & extra_fits(c))
-}
-
-// 9, of the scheduling constraints, where 8 does not apply to them.
-#[tactic(auto, using(input_data::specs::BytesLaws::numbers_of, input_data::specs::BytesLaws::count_of))]
-pub fn bad_scheduling(choices: u32, slots: u32, day: &[u8], at: usize, count: usize) -> bool
-    requires { at + 768 ≤ length day.now }
-    ensures { result ≡ bad_scheduling choices slots (list_in day.now count at) }
-{
-    any_of::<32, _>(
-        count,
-        |i| bad_scheduling_operand(choices, slots, numbers_at(day, at, i)),
-    )
+    operands_fit(c, left, case, limited, target) & extra_fits(c)
 }
 
 // 9, of an assignment constraint: 65536 has a choice on the left, 65539 a chooser as its target.
-fn bad_assignment_operand(choosers: u32, choices: u32, c: ConstraintNumbers) -> bool
-    ensures { result ≡ not (assignment_by_number choosers choices c) }
+fn assignment_fits(choosers: usize, choices: usize, c: ConstraintNumbers) -> bool
+    ensures { result ≡ assignment_by_number choosers choices c }
 {
     let tied = c.kind == 65539;
     let left = if c.kind == 65536 { choices } else { choosers };
     let target = if tied { choosers } else { choices };
     let case = if tied { 3 } else { 2 };
-    !((c.left < left) & ((c.target_case == case) & (c.target < target)))
+    operands_fit(c, left, case, false, target)
 }
 
-// 9, of the assignment constraints, where 8 does not apply to them.
-#[tactic(auto, using(input_data::specs::BytesLaws::numbers_of, input_data::specs::BytesLaws::count_of))]
-pub fn bad_assignment(choosers: u32, choices: u32, day: &[u8], at: usize, count: usize) -> bool
-    requires { at + 768 ≤ length day.now }
-    ensures { result ≡ bad_assignment choosers choices (list_in day.now count at) }
+// 9, where 8 applies to neither list.
+pub fn bad_operands(day: &Day) -> bool
+    ensures { result ≡ (bad_scheduling day.now.choices day.now.slots day.now.scheduling || bad_assignment day.now.choosers day.now.choices day.now.assignment) }
 {
+    let (choosers, choices, slots) = (day.choosers(), day.choices(), day.slots());
+    let scheduling = day.scheduling();
+    let assignment = day.assignment();
     any_of::<32, _>(
-        count,
-        |i| bad_assignment_operand(choosers, choices, numbers_at(day, at, i)),
+        scheduling.count(),
+        |i| !scheduling_fits(choices, slots, scheduling.get(i)),
+    ) | any_of::<32, _>(
+        assignment.count(),
+        |i| !assignment_fits(choosers, choices, assignment.get(i)),
     )
 }

@@ -2,15 +2,13 @@
 #![tactic(auto)]
 
 ghost use Rattle.std.specs.Prelude.{◌≡◌};
-ghost use Rattle.input_data.specs.Bytes.{IsDay, day_of};
-ghost use Rattle.input_data.specs.Checks.{bad_choices, member_count, bad_members, bad_groups, late_number, day_number};
+ghost use Rattle.refusal.specs.Number.{outcome};
+ghost use Rattle.input_data.specs.Checks.{bad_choices, member_count, bad_groups, late_number, day_number};
 
-use constraints::{bad_assignment, bad_kinds, bad_scheduling};
+use constraints::{bad_kinds, bad_operands};
 use counting::any_of;
-use input_data::{
-    Beside, Limits, assignment_count, choices, choosers, first, groups, length_at, max_at,
-    max_preference, member_at, min_at, scheduling_count, slots, too_many, word,
-};
+use input_data::{Beside, Day, Limits, too_many};
+use refusal::Refusal;
 
 mod constraints;
 mod tables;
@@ -18,73 +16,81 @@ mod tables;
 pub use tables::{bad_costs, bad_levels, bad_preferences};
 
 // 3.
-fn bad_choices(n: usize, day: &[u8]) -> bool
-    requires { IsDay day.now }
-    ensures { result ≡ bad_choices n (day_of day.now).mins (day_of day.now).maxs }
+fn bad_choices(day: &Day) -> bool
+    ensures { result ≡ bad_choices day.now.choices day.now.mins day.now.maxs }
 {
     any_of::<32, _>(
-        n,
-        |i| (max_at(day, i) < min_at(day, i)) | (1000 < max_at(day, i)),
+        day.choices(),
+        |i| (day.max(i) < day.min(i)) | (1000 < day.max(i)),
     )
 }
 
 // The members of all groups together. The sum of 16 lengths of 32 bits fits.
 #[tactic(auto, using(counting::specs::FoldLaws::fold_more, counting::specs::FoldLaws::fold_none))]
-fn member_count(n: usize, day: &[u8]) -> u64
-    requires { IsDay day.now }
-    ensures { result ≡ member_count n (day_of day.now).lengths }
+fn member_count(day: &Day) -> u64
+    ensures { result ≡ member_count day.now.groups day.now.lengths }
 {
     let mut sum = 0;
-    for i in 0..n.min(16) {
-        sum += length_at(day, i) as u64;
+    for i in 0..day.groups().min(16) {
+        sum += day.group_length(i) as u64;
     }
     sum
 }
 
-fn bad_members(choices: usize, count: u64, day: &[u8]) -> bool
-    requires { IsDay day.now }
-    ensures { result ≡ bad_members choices count (day_of day.now).members }
-{
-    (32 < count) | any_of::<32, _>(count as usize, |i| choices <= member_at(day, i) as usize)
-}
-
 // 10.
-fn bad_groups(choices: usize, n: usize, day: &[u8]) -> bool
-    requires { IsDay day.now }
-    ensures { result ≡ bad_groups choices n (day_of day.now).lengths (day_of day.now).members }
+fn bad_groups(day: &Day) -> bool
+    ensures { result ≡ bad_groups day.now.choices day.now.groups day.now.lengths day.now.members }
 {
-    (16 < n) | bad_members(choices, member_count(n, day), day)
+    let count = member_count(day);
+    let choices = day.choices();
+    (16 < day.groups())
+        | ((32 < count) | any_of::<32, _>(count as usize, |i| choices <= day.member(i) as usize))
 }
 
-// The first of checks 7 to 10 that applies, or `rest`.
-#[tactic(auto, using(input_data::specs::BytesLaws::choosers_of, input_data::specs::BytesLaws::choices_of_lem, input_data::specs::BytesLaws::slots_of, input_data::specs::BytesLaws::scheduling_list_of, input_data::specs::BytesLaws::assignment_list_of, input_data::specs::ByNumber::eight_nine), unfolding(input_data::specs::Checks::late_number))]
-fn late_number(day: &[u8], asked: bool, rest: u32) -> u32
-    requires { IsDay day.now }
-    ensures { result ≡ late_number (day_of day.now) asked rest }
+// Checks 7 to 10.
+#[tactic(auto, using(input_data::specs::ByNumber::eight_nine), unfolding(input_data::specs::Checks::late_number, input_data::specs::Checks::first_of))]
+fn check_late(day: &Day, asked: bool) -> Result<(), Refusal>
+    ensures { outcome result ≡ late_number day.now asked 0 }
 {
-    let s = scheduling_count(day);
-    let a = assignment_count(day);
-    let kinds = bad_kinds(1, 6, day, 508, s) | bad_kinds(65536, 65539, day, 1276, a);
-    let operands = bad_scheduling(word(day, 4), word(day, 8), day, 508, s)
-        | bad_assignment(word(day, 0), word(day, 4), day, 1276, a)
-        | asked;
-    let groups = bad_groups(choices(day), groups(day), day);
-    let from9 = first(operands, 9, first(groups, 10, rest));
-    first((32 < s) | (32 < a), 7, first(kinds, 8, from9))
+    let scheduling = day.scheduling();
+    let assignment = day.assignment();
+    if (32 < scheduling.count()) | (32 < assignment.count()) {
+        return Err(Refusal::TooManyConstraints);
+    }
+    if bad_kinds(1, 6, &scheduling) | bad_kinds(65536, 65539, &assignment) {
+        return Err(Refusal::Kinds);
+    }
+    if bad_operands(day) | asked {
+        return Err(Refusal::Operands);
+    }
+    if bad_groups(day) {
+        return Err(Refusal::Groups);
+    }
+    Ok(())
 }
 
-// The first number that applies, with what a call tests beside the day, and `rest` after 10.
-#[tactic(auto, unfolding(input_data::specs::Checks::day_number))]
-pub fn day_number(limits: Limits, day: &[u8], beside: Beside, rest: u32) -> u32
-    requires { IsDay day.now }
-    ensures { result ≡ day_number limits (day_of day.now) beside rest }
+// Checks 1 to 10, with what a call tests beside the day.
+#[tactic(auto, unfolding(input_data::specs::Checks::day_number, input_data::specs::Checks::first_of))]
+pub fn check_day(limits: Limits, day: &Day, beside: Beside) -> Result<(), Refusal>
+    ensures { outcome result ≡ day_number limits day.now beside 0 }
 {
-    let n = choices(day);
-    let many = too_many(limits, choosers(day), n, slots(day));
-    let sizes = bad_choices(n, day);
-    let preferences = (255 < max_preference(day)) | beside.bad_preferences;
-    let late = late_number(day, beside.bad_asked, rest);
-    let from5 = first(beside.bad_levels, 5, first(beside.bad_costs, 6, late));
-    let from3 = first(sizes, 3, first(preferences, 4, from5));
-    first(many, 1, first(beside.bad_lengths, 2, from3))
+    if too_many(limits, day.choosers(), day.choices(), day.slots()) {
+        return Err(Refusal::TooMany);
+    }
+    if beside.bad_lengths {
+        return Err(Refusal::Lengths);
+    }
+    if bad_choices(day) {
+        return Err(Refusal::Sizes);
+    }
+    if (255 < day.max_preference()) | beside.bad_preferences {
+        return Err(Refusal::Preferences);
+    }
+    if beside.bad_levels {
+        return Err(Refusal::Levels);
+    }
+    if beside.bad_costs {
+        return Err(Refusal::Costs);
+    }
+    check_late(day, beside.bad_asked)
 }

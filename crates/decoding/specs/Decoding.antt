@@ -1,6 +1,6 @@
 -- What decoding asks, and the laws of its walks. Definitions and their laws.
-use Rattle.std.specs.Prelude.{ℕ, ◌+◌, ◌*◌, ◌<◌, ◌≤◌, ◌≡◌, Bool, true, false, List, [], ◌++◌, ℤ, length, get_or, take, drop}
-use Rattle.std.proofs.Common.{sym, ◌∙◌, mul-le-mul_right, suc-mul, arith}
+use Rattle.std.specs.Prelude.{ℕ, ◌+◌, ◌*◌, ◌<◌, ◌≤◌, ◌≡◌, Bool, true, false, List, [], ◌++◌, length, get_or, take, drop}
+use Rattle.std.proofs.Common.{sym, ◌∙◌, arith}
 use Rattle.std.proofs.Math.Path.{ap}
 use Rattle.counting.specs.Fold.{join_to}
 use Rattle.counting.specs.FoldLaws.{fold_none, fold_more, fold_ext}
@@ -10,38 +10,48 @@ use Rattle.counting.specs.SearchLaws.{first_at, first_passes, first_ext}
 use Rattle.counting.specs.Tests.{lt_cases, eq_cases, never}
 use Rattle.counting.specs.Sums.{sum_const}
 use Rattle.counting.specs.Written.{written}
-use Rattle.counting.specs.WrittenLaws.{written_none, written_then, length_written}
+use Rattle.counting.specs.WrittenLaws.{written_none, written_then}
 use Rattle.scheduling.specs.Schedule.{entry_at}
 use Rattle.input_data.specs.declared.Sizes.{Sizes}
+use Rattle.slot_lists.specs.declared.lists.SlotLists.{SlotLists}
+use Rattle.decoding.specs.declared.values.EdgeValues.{EdgeValues}
 use Rattle.slot_lists.specs.Lists.{listed}
 use Rattle.slot_lists.specs.ListsLaws.{part_length, part_at}
 use Rattle.mip_flow.specs.IndexLaws.{number_at}
 use Rattle.decoding.specs.Decode.{is_one, has_one, choice_for, plan_row, decoded}
 
--- the plan that lent tables say
-abbrev pub decoded_row : ℕ → Sizes → List ℕ → List ℕ → List ℕ → List ℤ → ℕ → List ℕ
-decoded_row n z index lists lens values = plan_row n values (number_at index) (entry_at lens) (listed z.stride lists) z
+-- the value of chooser c's edge to the choice at place j of a list is 1
+abbrev pub one_in : EdgeValues → (ℕ → ℕ) → ℕ → ℕ → Bool
+one_in e list c j = has_one e.index.now.count e.values.now (number_at e.index.now.numbers) list c j
 
-pub record Decoding (n : ℕ) (z : Sizes) (index lists lens : List ℕ) (values : List ℤ) (size : ℕ) : Type 0 where
+-- what a chooser has in a slot, and in each, and the plan, as lent lists and values say them
+abbrev pub choice_had : SlotLists → EdgeValues → ℕ → ℕ → ℕ
+choice_had l e = choice_for e.index.now.count e.values.now (number_at e.index.now.numbers) (entry_at l.lens) (listed l.stride l.bytes.now)
+
+abbrev pub decoded_row : Sizes → SlotLists → EdgeValues → ℕ → List ℕ
+decoded_row z l e = plan_row e.index.now.count e.values.now (number_at e.index.now.numbers) (entry_at l.lens) (listed l.stride l.bytes.now) z
+
+unfoldable pub decoded_plan : Sizes → SlotLists → EdgeValues → List ℕ
+decoded_plan z l e = decoded e.index.now.count e.values.now (number_at e.index.now.numbers) (entry_at l.lens) (listed l.stride l.bytes.now) z
+
+pub record Decoding (z : Sizes) (l : SlotLists) (e : EdgeValues) (size : ℕ) : Type 0 where
   pub choosers : z.choosers ≤ 64
-  pub choices : z.choices ≤ 32
   pub slots : z.slots ≤ 8
-  pub stride : z.choices ≤ z.stride
   -- each list is in its slot's part, which is in the buffer, and holds choices
-  pub short : (s : ℕ) → s < z.slots → entry_at lens s ≤ z.stride
-  pub part : (s : ℕ) → s < z.slots → z.stride * s + z.stride ≤ length lists
-  pub small : (s j : ℕ) → s < z.slots → j < entry_at lens s → listed z.stride lists s j < 32
-  pub edges : n ≤ length values
+  pub short : (s : ℕ) → s < z.slots → entry_at l.lens s ≤ l.stride
+  pub part : (s : ℕ) → s < z.slots → l.stride * s + l.stride ≤ length l.bytes.now
+  pub small : (s j : ℕ) → s < z.slots → j < entry_at l.lens s → listed l.stride l.bytes.now s j < 32
+  pub edges : e.index.now.count ≤ length e.values.now
   pub room : z.choosers * z.slots ≤ size
   -- every chooser has in every slot a listed choice whose edge has 1
-  pub found : (c s : ℕ) → c < z.choosers → s < z.slots → first_to (entry_at lens s) (has_one n values (number_at index) (listed z.stride lists s) c) < entry_at lens s
+  pub found : (c s : ℕ) → c < z.choosers → s < z.slots → first_to (entry_at l.lens s) (one_in e (listed l.stride l.bytes.now s) c) < entry_at l.lens s
 
 -- the same of one list
-pub record Finds (n : ℕ) (index part : List ℕ) (values : List ℤ) (c : ℕ) : Type 0 where
-  pub edges : n ≤ length values
+pub record Finds (e : EdgeValues) (list : List ℕ) (c : ℕ) : Type 0 where
+  pub edges : e.index.now.count ≤ length e.values.now
   pub chooser : c < 64
-  pub small : (j : ℕ) → j < length part → get_or part j 0 < 32
-  pub found : first_to (length part) (has_one n values (number_at index) (entry_at part) c) < length part
+  pub small : (j : ℕ) → j < length list → get_or list j 0 < 32
+  pub found : first_to (length list) (one_in e (entry_at list) c) < length list
 
 -- a search that is at j: nothing before j passes
 pub record Searching (len : ℕ) (f : ℕ → Bool) (j : ℕ) : Type 0 where
@@ -54,9 +64,6 @@ pub record Searching (len : ℕ) (f : ℕ → Bool) (j : ℕ) : Type 0 where
 not_before : (len : ℕ) (f : ℕ → Bool) (j : ℕ) → first_to len f < len → ((k : ℕ) → k < j → f k ≡ false) → j ≤ first_to len f
 not_before len f j h g = lt_cases (first_to len f) j (λ l e. never (sym (first_passes len f h) ∙ g (first_to len f) l)) (λ l e. l)
 
-pub search_start : (len : ℕ) (f : ℕ → Bool) → first_to len f < len → Searching len f 0
-search_start len f h = record { below = omega arith; fails = λ k l. absurd (omega arith) }
-
 pub search_on : {len : ℕ} {f : ℕ → Bool} {j : ℕ} → first_to len f < len → Searching len f j → f j ≡ false → Searching len f (j + 1)
 search_on {len = len} {f = f} {j = j} h p e =
     let g : (k : ℕ) → k < j + 1 → f k ≡ false = λ k l. eq_cases k j (λ q t. rw q e) (λ q t. p.fails k (omega arith)) in
@@ -65,55 +72,37 @@ search_on {len = len} {f = f} {j = j} h p e =
 pub search_end : {len : ℕ} {f : ℕ → Bool} {j : ℕ} → Searching len f j → f j ≡ true → j ≡ first_to len f
 search_end {len = len} {f = f} {j = j} p e = first_at len f j p.below p.fails e
 
-module _ {n : ℕ} {z : Sizes} {index lists lens : List ℕ} {values : List ℤ} {size : ℕ} (h : Decoding n z index lists lens values size) (c s : ℕ) (hc : c < z.choosers) (hs : s < z.slots) where
+module _ {z : Sizes} {l : SlotLists} {e : EdgeValues} {size : ℕ} (h : Decoding z l e size) (c s : ℕ) (hc : c < z.choosers) (hs : s < z.slots) where
   abbrev len : ℕ
-  len = entry_at lens s
+  len = entry_at l.lens s
 
   abbrev front : List ℕ
-  front = take len (drop (z.stride * s) lists)
+  front = take len (drop (l.stride * s) l.bytes.now)
 
   long : length front ≡ len
-  long = part_length (z.stride * s) len lists (omega (arith, h.part s hs, h.short s hs))
+  long = part_length (l.stride * s) len l.bytes.now (omega (arith, h.part s hs, h.short s hs))
 
-  same_place : first_to (length front) (has_one n values (number_at index) (entry_at front) c) ≡ first_to len (has_one n values (number_at index) (listed z.stride lists s) c)
-  same_place = rw long (first_ext len (has_one n values (number_at index) (entry_at front) c) (has_one n values (number_at index) (listed z.stride lists s) c)
-      (λ j l. ap (λ k. is_one n values (number_at index c k)) (part_at (z.stride * s) len lists j l)))
+  same_place : first_to (length front) (one_in e (entry_at front) c) ≡ first_to len (one_in e (listed l.stride l.bytes.now s) c)
+  same_place = rw long (first_ext len (one_in e (entry_at front) c) (one_in e (listed l.stride l.bytes.now s) c)
+      (λ j b. ap (λ k. is_one e.index.now.count e.values.now (number_at e.index.now.numbers c k)) (part_at (l.stride * s) len l.bytes.now j b)))
 
-  pub finds : Finds n index front values c
-  finds = record {
+  -- the slot's list is one that can be searched ..
+  pub finds : {list : List ℕ} → list ≡ front → Finds e list c
+  finds q = rw q (record {
     edges = h.edges;
     chooser = omega (arith, h.choosers);
-    small = λ j l. let b : j < len = omega (arith, long) in rw (part_at (z.stride * s) len lists j b) (h.small s j hs b);
+    small = λ j i. let b : j < len = omega (arith, long) in rw (part_at (l.stride * s) len l.bytes.now j b) (h.small s j hs b);
     found = omega (arith, same_place, long, h.found c s hc hs);
-  }
+  })
 
-  front_choice : entry_at front (first_to (length front) (has_one n values (number_at index) (entry_at front) c)) ≡ choice_for n values (number_at index) (entry_at lens) (listed z.stride lists) c s
+  front_choice : entry_at front (first_to (length front) (one_in e (entry_at front) c)) ≡ choice_had l e c s
   unfolding choice_for
-  front_choice = ap (entry_at front) same_place ∙ part_at (z.stride * s) len lists (first_to len (has_one n values (number_at index) (listed z.stride lists s) c)) (h.found c s hc hs)
+  front_choice = ap (entry_at front) same_place ∙ part_at (l.stride * s) len l.bytes.now (first_to len (one_in e (listed l.stride l.bytes.now s) c)) (h.found c s hc hs)
 
-  -- what is found in a part that holds the slot's list
-  pub front_is : {part : List ℕ} {r : ℕ} → part ≡ front → r ≡ entry_at part (first_to (length part) (has_one n values (number_at index) (entry_at part) c))
-      → r ≡ choice_for n values (number_at index) (entry_at lens) (listed z.stride lists) c s
-  front_is e q = (rw e at q) ∙ front_choice
-
--- a row is one of the plan
-pub row_in : (m n c : ℕ) → c < m → c * n ≤ m * n
-row_in m n c h = omega (arith, mul-le-mul_right n h, suc-mul c n)
-
--- with another buffer for the plan
-pub resize : {n : ℕ} {z : Sizes} {index lists lens : List ℕ} {values : List ℤ} {size : ℕ} → Decoding n z index lists lens values size → (size' : ℕ) → z.choosers * z.slots ≤ size' → Decoding n z index lists lens values size'
-resize h size' b = record {
-  choosers = h.choosers;
-  choices = h.choices;
-  slots = h.slots;
-  stride = h.stride;
-  short = h.short;
-  part = h.part;
-  small = h.small;
-  edges = h.edges;
-  room = b;
-  found = h.found;
-}
+  -- .. and what is found there is what the chooser has in the slot
+  pub found_in : {list : List ℕ} {r : ℕ} → list ≡ front → r ≡ entry_at list (first_to (length list) (one_in e (entry_at list) c))
+      → r ≡ choice_had l e c s
+  found_in q p = (rw q at p) ∙ front_choice
 
 -- rows of one width are stored, one after the other
 pub record Rows (d₀ : List ℕ) (f : ℕ → List ℕ) (i : ℕ) (d : List ℕ) : Type 0 where
@@ -128,15 +117,10 @@ rows_more {d₀ = d₀} {f = f} {i = i} width w p e = record {
       (omega (arith, length_join i f, fold_ext ◌+◌ 0 i (λ k. length (f k)) (λ k. width) (λ k l. w k), sum_const i width)));
 }
 
-pub rows_length : {d₀ : List ℕ} {f : ℕ → List ℕ} {i : ℕ} {d : List ℕ} → Rows d₀ f i d → length d ≡ length d₀
-rows_length {d₀ = d₀} {f = f} {i = i} p = ap length p.holds ∙ length_written d₀ 0 (join_to i f)
-
 -- one row more of a plan
-pub plan_more : (n : ℕ) (z : Sizes) (index lists lens : List ℕ) (values : List ℤ) {d₀ d d' : List ℕ} {c : ℕ} → Rows d₀ (decoded_row n z index lists lens values) c d
-    → d' ≡ written d (c * z.slots) (decoded_row n z index lists lens values c) → Rows d₀ (decoded_row n z index lists lens values) (c + 1) d'
-plan_more n z index lists lens values p e = rows_more z.slots (λ c. length_table z.slots (choice_for n values (number_at index) (entry_at lens) (listed z.stride lists) c)) p e
+pub plan_more : (z : Sizes) (l : SlotLists) (e : EdgeValues) {d₀ d d' : List ℕ} {c : ℕ} → Rows d₀ (decoded_row z l e) c d → d' ≡ written d (c * z.slots) (decoded_row z l e c) → Rows d₀ (decoded_row z l e) (c + 1) d'
+plan_more z l e p q = rows_more z.slots (λ c. length_table z.slots (choice_had l e c)) p q
 
-pub plan_all : (n : ℕ) (z : Sizes) (index lists lens : List ℕ) (values : List ℤ) {d₀ d : List ℕ} {c : ℕ} → c ≡ z.choosers → Rows d₀ (decoded_row n z index lists lens values) c d
-    → d ≡ written d₀ 0 (decoded n values (number_at index) (entry_at lens) (listed z.stride lists) z)
-unfolding decoded
-plan_all n z index lists lens values {d₀ = d₀} e p = p.holds ∙ ap (λ k. written d₀ 0 (join_to k (decoded_row n z index lists lens values))) e
+pub plan_all : (z : Sizes) (l : SlotLists) (e : EdgeValues) {d₀ d : List ℕ} {c : ℕ} → c ≡ z.choosers → Rows d₀ (decoded_row z l e) c d → d ≡ written d₀ 0 (decoded_plan z l e)
+unfolding decoded decoded_plan
+plan_all z l e {d₀ = d₀} q p = p.holds ∙ ap (λ k. written d₀ 0 (join_to k (decoded_row z l e))) q

@@ -2,183 +2,118 @@
 // scheduled members.
 #![tactic(auto)]
 
-ghost use Rattle.std.specs.Prelude.{◌≡◌, ◌+◌, ◌*◌, ◌<◌, ◌≤◌, length};
+ghost use Rattle.std.specs.Prelude.{◌≡◌, [], ◌∷◌, ◌+◌, ◌*◌, ◌<◌, ◌≤◌, length};
 ghost use Rattle.counting.specs.Fold.{join_to};
-ghost use Rattle.counting.specs.WrittenLaws.{Put};
+ghost use Rattle.model_buffers.specs.Stored.{part_used, part_size};
 ghost use Rattle.mip_flow.specs.IndexLaws.{number_at};
-ghost use Rattle.edge_groups.specs.Grouping.{Members};
-ghost use Rattle.edge_groups.specs.Groups.{all_there, present};
-ghost use Rattle.edge_groups.specs.Lent.{Stores, HasRoom};
-ghost use Rattle.edge_groups.specs.Names.{member_name, chooser_names, chooser_names_at, group_names};
-ghost use Rattle.edge_groups.specs.Stored.{storing};
+ghost use Rattle.edge_groups.specs.Grouping.{Choices};
+ghost use Rattle.edge_groups.specs.Groups.{all_there, present, Room};
+ghost use Rattle.edge_groups.specs.Lent.{Stores, StoresEdges};
+ghost use Rattle.edge_groups.specs.Names.{member_name, chooser_names_of, group_names_of};
 
-use edge_groups::{Marks, edge_number, put_edge};
+use edge_groups::put_edge;
 use input_data::Sizes;
+use mip_flow::EdgeIndex;
+use model_buffers::{Groups, Part};
 
 // Whether the edge of chooser c to choice k is there. A choice without a slot names no edge.
-fn is_there(n: usize, index: &[u16; 2048], schedule: &[u8; 32], c: usize, k: usize) -> bool
+fn is_there(index: &EdgeIndex, schedule: &[u8; 32], c: usize, k: usize) -> bool
     requires { (c < 64) × (k < 32) }
-    ensures { result ≡ all_there n (member_name (number_at index.now) schedule.now c k) }
+    ensures { result ≡ all_there index.now.count (member_name (number_at index.now.numbers) schedule.now c k) }
 {
     if schedule[k] == 0 {
         return true;
     }
-    edge_number(index, c, k) < n
+    index.edge(c, k).is_some()
 }
 
-// Whether all edges of chooser c to the scheduled members are there.
-fn all_there(
-    n: usize,
-    index: &[u16; 2048],
-    schedule: &[u8; 32],
-    members: &[u32; 32],
-    start: usize,
-    len: usize,
-    c: usize,
-) -> bool
-    requires { (c < 64) × Members start len members.now }
-    ensures { result ≡ all_there n (chooser_names (number_at index.now) schedule.now members.now start len c) }
+// Whether all edges of chooser c to the scheduled members of a group are there.
+fn all_there(index: &EdgeIndex, schedule: &[u8; 32], group: &[u32], c: usize) -> bool
+    requires { (c < 64) × Choices group.now }
+    ensures { result ≡ all_there index.now.count (chooser_names_of (number_at index.now.numbers) schedule.now group.now c) }
 {
-    counting::all_below(len, |i| {
-        is_there(n, index, schedule, c, members[start + i] as usize)
-    })
+    counting::all_below(
+        group.len(),
+        |i| is_there(index, schedule, c, group[i] as usize),
+    )
 }
 
 // Stores the edge of chooser c to choice k if k has a slot and the edge is there.
 fn put_member(
-    n: usize,
-    index: &[u16; 2048],
+    index: &EdgeIndex,
     schedule: &[u8; 32],
     c: usize,
     k: usize,
-    out: &mut [u16],
-    at: usize,
-) -> usize
-    requires { (n ≤ 2080) × (c < 64) × (k < 32) × (at + 1 ≤ length out.old) }
-    ensures { Put storing out.old at (present n (member_name (number_at index.now) schedule.now c k)) out.new result }
+    groups: &mut Groups,
+    part: Part,
+)
+    requires { (c < 64) × (k < 32) × (part_used part groups.old < part_size part groups.old) }
+    ensures { StoresEdges part (present index.now.count (member_name (number_at index.now.numbers) schedule.now c k)) groups }
 {
-    if schedule[k] == 0 {
-        return at;
+    if schedule[k] != 0 {
+        put_edge(index, c, k, groups, part);
     }
-    put_edge(n, edge_number(index, c, k), out, at)
 }
 
-// Stores those edges of chooser c to the scheduled members that are there.
+// Stores those edges of chooser c to the scheduled members of a group that are there.
 fn put_present(
-    n: usize,
-    index: &[u16; 2048],
+    index: &EdgeIndex,
     schedule: &[u8; 32],
-    members: &[u32; 32],
-    start: usize,
-    len: usize,
+    group: &[u32],
     c: usize,
-    out: &mut [u16],
-    at: usize,
-) -> usize
-    requires { (n ≤ 2080) × (c < 64) × Members start len members.now × (at + len ≤ length out.old) }
-    ensures { Put storing out.old at (present n (chooser_names (number_at index.now) schedule.now members.now start len c)) out.new result }
+    groups: &mut Groups,
+    part: Part,
+)
+    requires { (c < 64) × Choices group.now × (part_used part groups.old + length group.now ≤ part_size part groups.old) }
+    ensures { StoresEdges part (present index.now.count (chooser_names_of (number_at index.now.numbers) schedule.now group.now c)) groups }
 {
-    let mut to = at;
-    for i in 0..len {
-        let k = members[start + i] as usize;
-        to = put_member(n, index, schedule, c, k, out, to);
+    for k in group {
+        put_member(index, schedule, c, *k as usize, groups, part);
     }
-    to
 }
 
 // The edges of chooser c form a group if all are there; otherwise those that are there are blocked.
-fn put_chooser(
-    n: usize,
-    index: &[u16; 2048],
-    schedule: &[u8; 32],
-    members: &[u32; 32],
-    start: usize,
-    len: usize,
-    c: usize,
-    entries: &mut [u16],
-    ends: &mut [u16],
-    blocked: &mut [u16],
-    at: Marks,
-) -> Marks
-    requires { (n ≤ 2080) × (c < 64) × Members start len members.now × HasRoom entries ends blocked at len 1 }
-    ensures { Stores n entries ends blocked at (chooser_names_at (number_at index.now) schedule.now members.now start len c) result }
+fn put_chooser(index: &EdgeIndex, schedule: &[u8; 32], group: &[u32], c: usize, groups: &mut Groups)
+    requires { (c < 64) × Choices group.now × Room groups.old (length group.now) 1 }
+    ensures { Stores index.now.count (chooser_names_of (number_at index.now.numbers) schedule.now group.now c ∷ []) groups }
 {
-    if all_there(n, index, schedule, members, start, len, c) {
-        let end = put_present(
-            n, index, schedule, members, start, len, c, entries, at.entries,
-        );
-        ends[at.groups] = end as u16;
-        return Marks {
-            entries: end,
-            groups: at.groups + 1,
-            ..at
-        };
-    }
-    Marks {
-        blocked: put_present(
-            n, index, schedule, members, start, len, c, blocked, at.blocked,
-        ),
-        ..at
+    if all_there(index, schedule, group, c) {
+        put_present(index, schedule, group, c, groups, Part::Entries);
+        groups.close();
+    } else {
+        put_present(index, schedule, group, c, groups, Part::Blocked);
     }
 }
 
 // The edges of all choosers, one after the other.
 fn put_choosers(
-    n: usize,
-    choosers: usize,
-    index: &[u16; 2048],
+    index: &EdgeIndex,
     schedule: &[u8; 32],
-    members: &[u32; 32],
-    start: usize,
-    len: usize,
-    entries: &mut [u16],
-    ends: &mut [u16],
-    blocked: &mut [u16],
-    at: Marks,
-) -> Marks
-    requires { (n ≤ 2080) × (choosers ≤ 64) × Members start len members.now × HasRoom entries ends blocked at (choosers * len) choosers }
-    ensures { Stores n entries ends blocked at (join_to choosers (chooser_names_at (number_at index.now) schedule.now members.now start len)) result }
+    group: &[u32],
+    choosers: usize,
+    groups: &mut Groups,
+)
+    requires { (choosers ≤ 64) × Choices group.now × Room groups.old (choosers * length group.now) choosers }
+    ensures { Stores index.now.count (join_to choosers (λ c. chooser_names_of (number_at index.now.numbers) schedule.now group.now c ∷ [])) groups }
 {
-    let mut to = at;
     for c in 0..choosers {
-        to = put_chooser(
-            n, index, schedule, members, start, len, c, entries, ends, blocked, to,
-        );
+        put_chooser(index, schedule, group, c, groups);
     }
-    to
 }
 
 // A dependent group, unless its length is 1.
 pub fn put_group(
-    n: usize,
     sizes: Sizes,
-    index: &[u16; 2048],
+    index: &EdgeIndex,
     schedule: &[u8; 32],
-    members: &[u32; 32],
-    start: usize,
-    len: usize,
-    entries: &mut [u16],
-    ends: &mut [u16],
-    blocked: &mut [u16],
-    at: Marks,
-) -> Marks
-    requires { (n ≤ 2080) × (sizes.choosers ≤ 64) × Members start len members.now × HasRoom entries ends blocked at (len * 64) 64 }
-    ensures { Stores n entries ends blocked at (group_names (number_at index.now) sizes schedule.now members.now start len) result }
+    group: &[u32],
+    groups: &mut Groups,
+)
+    requires { (sizes.choosers ≤ 64) × Choices group.now × Room groups.old (length group.now * 64) 64 }
+    ensures { Stores index.now.count (group_names_of (number_at index.now.numbers) sizes schedule.now group.now) groups }
 {
-    if len == 1 {
-        return at;
+    if group.len() == 1 {
+        return;
     }
-    put_choosers(
-        n,
-        sizes.choosers,
-        index,
-        schedule,
-        members,
-        start,
-        len,
-        entries,
-        ends,
-        blocked,
-        at,
-    )
+    put_choosers(index, schedule, group, sizes.choosers, groups);
 }

@@ -1,12 +1,13 @@
 -- How much is stored of lists of named edges, and how many edges constraints and dependent groups name. Assumes nothing.
 use Rattle.std.specs.Prelude.{ℕ, zero, suc, ◌+◌, ◌*◌, ◌<◌, ◌≤◌, ◌≡◌, refl, Bool, true, false, not, ltb, eqb, length}
-use Rattle.std.proofs.Common.{zero-le, mul-one, mul_comm, suc-mul, mul-le-mul_right, sym, ap, length-append}
+use Rattle.std.proofs.Common.{zero-le, mul-one, mul_comm, suc-mul, mul-le-mul_right, sym, length-append}
 use native.Mathlib.Omega.{arith}
 use mathlib.Core.List.{List, [], ◌∷◌, ◌++◌, append-nil}
 use Rattle.counting.specs.Fold.{fold_to, only_if, join_to, sum_to}
 use Rattle.counting.specs.FoldLaws.{fold_none, fold_more}
 use Rattle.counting.specs.Sums.{sum_const, sum_mono}
 use Rattle.counting.specs.Lists.{length_join_most, only_length}
+use Rattle.counting.specs.WrittenLaws.{length_written}
 use Rattle.constraint.specs.declared.Constraint.{Constraint}
 use Rattle.constraint.specs.Kind.{kind_number}
 use Rattle.constraint.specs.Cases.{target_operand}
@@ -14,10 +15,11 @@ use Rattle.input_data.specs.declared.ConstraintList.{ConstraintList}
 use Rattle.input_data.specs.Day.{constraint_at}
 use Rattle.scheduling.specs.Schedule.{entry_at}
 use Rattle.input_data.specs.declared.Sizes.{Sizes}
-use Rattle.edge_groups.specs.declared.Marks.{Marks}
-use Rattle.edge_groups.specs.Groups.{each, all_there, present, groups_of, blocked_of, flat, GroupBuffers, marks, marks_after, PutGroups, Room}
+use Rattle.model_buffers.specs.Appending.{Appends}
+use Rattle.model_buffers.specs.declared.groups.Groups.{Groups}
+use Rattle.edge_groups.specs.Groups.{each, all_there, present, groups_of, blocked_of, flat, store_groups, Room}
 use Rattle.edge_groups.specs.Names.{pair_names, slot_names, slot_names_at, same_choices_names, constraint_names, constraint_names_at, constraints_names, member_name_at, chooser_names, chooser_names_at, group_names, group_names_at, member_start, dependent_names, names}
-use Rattle.edge_groups.specs.Stored.{each_append, entries_length, groups_length, blocked_length_lem}
+use Rattle.edge_groups.specs.Stored.{each_append, ends_length, appending_groups}
 
 -- ---- no more is stored than is named
 
@@ -55,22 +57,20 @@ pub record Few (ls : List (List ℕ)) (w g : ℕ) : Type 0 where
 pub stored_most : (n : ℕ) {ls : List (List ℕ)} {w g : ℕ} → Few ls w g → (length (flat (groups_of n ls)) ≤ w) × (length (groups_of n ls) ≤ g) × (length (blocked_of n ls) ≤ w)
 stored_most n {ls = ls} f = let le = less_stored n ls in (omega (arith, f.named), omega (arith, f.lists), omega (arith, f.named))
 
--- where there was room for w and g, room for w' and g' is left after some of them
-pub room_after : {n : ℕ} {b₀ b : GroupBuffers} {k₀ k : Marks} {ls : List (List ℕ)} {w g u v : ℕ} (w' g' : ℕ) → PutGroups n b₀ k₀ ls b k → Room b₀ k₀ w g → Few ls u v → u + w' ≤ w → v + g' ≤ g → Room b k w' g'
-unfolding marks_after
-room_after {n = n} {b₀ = b₀} {b = b} {k₀ = k₀} {k = k} {ls = ls} w' g' p r f h i =
+-- where there was room for w and k, room for w' and k' is left after some of them
+pub room_after : (n : ℕ) {g g' : Groups} {ls : List (List ℕ)} {w k u v : ℕ} (w' k' : ℕ) → Appends (appending_groups n) g ls g' → Room g w k → Few ls u v → u + w' ≤ w → v + k' ≤ k → Room g' w' k'
+unfolding store_groups
+room_after n {ls = ls} w' k' p r f h i =
     let le = less_stored n ls in
-    let c1 : k.entries ≡ k₀.entries + length (flat (groups_of n ls)) = ap (λ (x : Marks). x.entries) p.counts in
-    let c2 : k.groups ≡ k₀.groups + length (groups_of n ls) = ap (λ (x : Marks). x.groups) p.counts in
-    let c3 : k.blocked ≡ k₀.blocked + length (blocked_of n ls) = ap (λ (x : Marks). x.blocked) p.counts in
-    omega (arith, entries_length p, groups_length p, blocked_length_lem p)
+    rw p.holds (record {
+      small = omega (arith, le.in_groups, f.named, r.small);
+      entries = simp length_written (omega (arith, le.in_groups, f.named, r.entries));
+      ends = simp length_written (omega (arith, le.groups, f.lists, r.ends));
+      blocked = simp length_written (omega (arith, le.blocked, f.named, r.blocked));
+    })
 
-pub room_less : {b : GroupBuffers} {k : Marks} {w g : ℕ} (u v : ℕ) → u ≤ w → v ≤ g → Room b k w g → Room b k u v
-room_less u v h i r = omega (arith, r.small, r.entries, r.ends, r.blocked)
-
--- unused buffers of the named lengths have room for 4,096 edges in 2,048 lists
-pub room_start : (b : GroupBuffers) (w g : ℕ) → 4096 ≤ length b.entries → 2048 ≤ length b.ends → 4096 ≤ length b.blocked → w ≤ 4096 → g ≤ 2048 → Room b (marks 0 0 0) w g
-room_start b w g p q r h i = record { small = omega arith; entries = omega arith; ends = omega arith; blocked = omega arith }
+pub room_less : {g : Groups} {w k : ℕ} (u v : ℕ) → u ≤ w → v ≤ k → Room g w k → Room g u v
+room_less u v h i r = record { small = omega (arith, r.small); entries = omega (arith, r.entries); ends = omega (arith, r.ends); blocked = omega (arith, r.blocked) }
 
 -- ---- joins of few
 

@@ -1,8 +1,8 @@
 -- What lists of named edges become: groups and the blocked list (SPEC 6.11, 6.12). An edge is there if its number is below n. Definitions only.
-use Rattle.std.specs.Prelude.{ℕ, ◌+◌, ◌≤◌, ◌≡◌, Bool, true, not, ◌&&◌, List, [], ◌∷◌, ◌++◌, ltb, length}
+use Rattle.std.specs.Prelude.{ℕ, ◌+◌, ◌≤◌, Bool, true, not, ◌&&◌, List, [], ◌∷◌, ◌++◌, ltb, length}
 use Rattle.counting.specs.Fold.{only_if}
-use Rattle.counting.specs.Written.{written}
-use Rattle.edge_groups.specs.declared.Marks.{Marks}
+use Rattle.model_buffers.specs.Stored.{wrote}
+use Rattle.model_buffers.specs.declared.groups.Groups.{Groups}
 
 -- what f makes of each element, one after the other
 unfoldable pub each : {A B : Type 0} → (A → List B) → List A → List B
@@ -47,40 +47,20 @@ unfoldable pub ends_from : ℕ → List (List ℕ) → List ℕ
 ends_from m [] = []
 ends_from m (g ∷ gs) = (m + length g) ∷ ends_from (m + length g) gs
 
-pub record GroupBuffers : Type 0 where
-  pub entries : List ℕ
-  pub ends : List ℕ
-  pub blocked : List ℕ
-
-abbrev pub group_buffers : List ℕ → List ℕ → List ℕ → GroupBuffers
-group_buffers a b c = record { entries = a; ends = b; blocked = c }
-
-abbrev pub marks : ℕ → ℕ → ℕ → Marks
-marks m g k = record { entries = m; groups = g; blocked = k }
-
--- the buffers and how much of them is used, once lists of named edges are stored
-unfoldable pub stored : ℕ → GroupBuffers → Marks → List (List ℕ) → GroupBuffers
-stored n b k ls = record {
-  entries = written b.entries k.entries (flat (groups_of n ls));
-  ends = written b.ends k.groups (ends_from k.entries (groups_of n ls));
-  blocked = written b.blocked k.blocked (blocked_of n ls);
+-- lists of named edges stored after what is there
+unfoldable pub store_groups : ℕ → Groups → List (List ℕ) → Groups
+store_groups n g ls = record {
+  entries = wrote g.entries g.entries_used (flat (groups_of n ls));
+  ends = wrote g.ends g.ends_used (ends_from g.entries_used (groups_of n ls));
+  blocked = wrote g.blocked g.blocked_used (blocked_of n ls);
+  entries_used = g.entries_used + length (flat (groups_of n ls));
+  ends_used = g.ends_used + length (groups_of n ls);
+  blocked_used = g.blocked_used + length (blocked_of n ls);
 }
 
-unfoldable pub marks_after : ℕ → Marks → List (List ℕ) → Marks
-marks_after n k ls = record {
-  entries = k.entries + length (flat (groups_of n ls));
-  groups = k.groups + length (groups_of n ls);
-  blocked = k.blocked + length (blocked_of n ls);
-}
-
--- the lists ls of named edges were stored: b₀ at k₀ became b at k
-pub record PutGroups (n : ℕ) (b₀ : GroupBuffers) (k₀ : Marks) (ls : List (List ℕ)) (b : GroupBuffers) (k : Marks) : Type 0 where
-  pub counts : k ≡ marks_after n k₀ ls
-  pub holds : b ≡ stored n b₀ k₀ ls
-
--- room for w named edges in g lists
-pub record Room (b : GroupBuffers) (k : Marks) (w g : ℕ) : Type 0 where
-  pub small : k.entries + w ≤ 4096
-  pub entries : k.entries + w ≤ length b.entries
-  pub ends : k.groups + g ≤ length b.ends
-  pub blocked : k.blocked + w ≤ length b.blocked
+-- room for w named edges in k lists, after what is there
+pub record Room (g : Groups) (w k : ℕ) : Type 0 where
+  pub small : g.entries_used + w ≤ 4096
+  pub entries : g.entries_used + w ≤ length g.entries.now
+  pub ends : g.ends_used + k ≤ length g.ends.now
+  pub blocked : g.blocked_used + w ≤ length g.blocked.now

@@ -1,6 +1,6 @@
 -- Which edges constraints and dependent groups name together: SPEC 6.9, 6.10. Definitions only.
 -- An edge is said by its chooser and its choice; `edge c k` is what stands for it: its number, or any other name.
-use Rattle.std.specs.Prelude.{ℕ, ◌+◌, not, List, [], ◌∷◌, ◌++◌, eqb, get_or}
+use Rattle.std.specs.Prelude.{ℕ, ◌+◌, not, List, [], ◌∷◌, ◌++◌, eqb, length, get_or}
 use Rattle.counting.specs.Fold.{only_if, join_to, sum_to}
 use Rattle.constraint.specs.Kind.{kind_number}
 use Rattle.constraint.specs.Cases.{target_operand}
@@ -51,6 +51,13 @@ module _ {A : Type 0} where
 
   unfoldable pub group_names : (ℕ → ℕ → A) → Sizes → List ℕ → List ℕ → ℕ → ℕ → List (List A)
   group_names edge z sch members start len = only_if (not (eqb len 1)) (join_to z.choosers (chooser_names_at edge sch members start len))
+
+  -- .. which is handed as the list of its members
+  abbrev pub chooser_names_of : (ℕ → ℕ → A) → List ℕ → List ℕ → ℕ → List A
+  chooser_names_of edge sch group c = chooser_names edge sch group 0 (length group) c
+
+  abbrev pub group_names_of : (ℕ → ℕ → A) → Sizes → List ℕ → List ℕ → List (List A)
+  group_names_of edge z sch group = group_names edge z sch group 0 (length group)
 
 -- where group g begins among the members
 unfoldable pub member_start : List ℕ → ℕ → ℕ

@@ -1,117 +1,118 @@
--- Check 17 by one walk over the edges: what flows out of each node and what flows in. Definitions and their laws.
-use Rattle.std.specs.Prelude.{ℕ, ◌+◌, ◌*◌, ◌<◌, ◌≤◌, ◌≡◌, refl, Bool, true, false, not, ◌||◌, List, ◌≢◌, ℤ, pos, negsuc, nat_abs, ◌-ℤ◌, length, get_or, set, replicate, T}
-use Rattle.std.proofs.Common.{sym, ap, subst, ◌∙◌, add-zero, arith, length-set, get_or-set_same, get_or-set_other, eq-eqb, ne_eqb}
+-- Check 17 by one walk over the edges: what flows out of each node, less what flows in. Definitions and their laws.
+use Rattle.std.specs.Prelude.{ℕ, ◌+◌, ◌*◌, ◌<◌, ◌≤◌, ◌≡◌, refl, false, not, ◌||◌, List, ◌≢◌, ℤ, pos, neg_ℤ, ◌-ℤ◌, length, get_or, set, replicate}
+use Rattle.std.proofs.Common.{sym, ap, subst, ◌∙◌, arith, length-set, get_or-set_same, get_or-set_other, eq-eqb, ne_eqb, w32, to_z, of_z, SFits}
 use Rattle.std.proofs.Math.IntN.{◌+ℤ◌}
+use Rattle.std.proofs.lemmas.Int.{ints}
 use Rattle.std.proofs.lemmas.List.{length-replicate, get_or-replicate}
-use Rattle.std.specs.Int.Signed.{mag, non_neg}
+use Rattle.std.specs.Int.Signed.{◌≤ℤ◌}
 use Rattle.counting.specs.Fold.{any_to}
 use Rattle.counting.specs.FoldLaws.{fold_none, fold_more, fold_ext}
 use Rattle.counting.specs.Ints.{eq_z}
-use Rattle.counting.specs.Tests.{eq_cases, never}
+use Rattle.counting.specs.Tests.{eq_cases}
 use Rattle.edge_values.specs.Values.{value_at, flow_at, flow, unbalanced_at, some_unbalanced}
 
--- 17 asks: the tables hold the edges and the nodes, of which there are 552 at most, and 14 passed
-pub record Balancing (nodes edges : ℕ) (from to : List ℕ) (supplies values : List ℤ) : Type 0 where
-  pub few_nodes : nodes ≤ 552
-  pub few_edges : edges ≤ 2080
-  pub from_long : edges ≤ length from
-  pub to_long : edges ≤ length to
-  pub supplies_long : nodes ≤ length supplies
-  pub values_long : edges ≤ length values
-  pub from_node : (e : ℕ) → e < edges → get_or from e 0 < 552
-  pub to_node : (e : ℕ) → e < edges → get_or to e 0 < 552
-  pub sign : (e : ℕ) → e < edges → non_neg (value_at values e) ≡ true
-  pub small : (e : ℕ) → e < edges → mag (value_at values e) ≤ 1000
-
--- x is the flow of the first edges at the node, and small
-pub record Flowed (edges : ℕ) (ends : List ℕ) (vs : List ℤ) (node x : ℕ) : Type 0 where
-  pub is : pos x ≡ flow edges ends vs node
-  pub small : x ≤ 1000 * edges
-
--- an array holds each node's flow
-pub record Flows (edges : ℕ) (ends : List ℕ) (vs : List ℤ) (sums : List ℕ) : Type 0 where
-  pub long : length sums ≡ 552
-  pub at : (v : ℕ) → v < 552 → Flowed edges ends vs v (get_or sums v 0)
-
--- what the walk over the edges asks
-pub record Walking (edges : ℕ) (from to : List ℕ) (values : List ℤ) (outs ins : List ℕ) : Type 0 where
+-- the walk over the edges asks: the tables hold them, a value is up to 1,000, and a node is one of 552
+pub record Walking (edges : ℕ) (from to : List ℕ) (values : List ℤ) : Type 0 where
   pub few : edges ≤ 2080
   pub from_long : edges ≤ length from
   pub to_long : edges ≤ length to
   pub values_long : edges ≤ length values
   pub from_node : (e : ℕ) → e < edges → get_or from e 0 < 552
   pub to_node : (e : ℕ) → e < edges → get_or to e 0 < 552
-  pub sign : (e : ℕ) → e < edges → non_neg (value_at values e) ≡ true
-  pub light : (e : ℕ) → e < edges → mag (value_at values e) ≤ 1000
-  pub outs_none : outs ≡ replicate 552 0
-  pub ins_none : ins ≡ replicate 552 0
+  pub light : (e : ℕ) → e < edges → (pos 0 ≤ℤ value_at values e) × (value_at values e ≤ℤ pos 1000)
 
--- a node, by its two sums
-abbrev pub unbalanced_by : List ℕ → List ℕ → List ℤ → ℕ → Bool
-unbalanced_by outs ins supplies v = not (eq_z (pos (get_or outs v 0) -ℤ pos (get_or ins v 0)) (get_or supplies v (pos 0)))
+-- 17 asks: .. and the nodes have a supply
+pub record Balancing (nodes edges : ℕ) (from to : List ℕ) (supplies values : List ℤ) : Type 0 where
+  pub walking : Walking edges from to values
+  pub few_nodes : nodes ≤ 552
+  pub supplies_long : nodes ≤ length supplies
+
+-- x is what flows out of the node by the first m edges, less what flows in by the first n
+pub record NetFlow (m n : ℕ) (from to : List ℕ) (vs : List ℤ) (node : ℕ) (x : ℤ) : Type 0 where
+  pub is : x ≡ (flow m from vs node -ℤ flow n to vs node)
+  pub low : neg_ℤ (pos (1000 * n)) ≤ℤ x
+  pub high : x ≤ℤ pos (1000 * m)
+
+-- an array holds this of each node
+pub record NetFlows (m n : ℕ) (from to : List ℕ) (vs net : List ℤ) : Type 0 where
+  pub long : length net ≡ 552
+  pub at : (v : ℕ) → v < 552 → NetFlow m n from to vs v (get_or net v (pos 0))
 
 -- ---- laws
 
--- a value that is not negative, as a natural number
-pub sign_cast : (z : ℤ) → non_neg z ≡ true → T (non_neg z)
-sign_cast (pos a) e = tt
-sign_cast (negsuc a) e = never (sym e)
-
-pub abs_mag : (z : ℤ) → non_neg z ≡ true → nat_abs z ≡ mag z
-abs_mag (pos a) e = refl
-abs_mag (negsuc a) e = never (sym e)
-
-pub pos_abs : (z : ℤ) → non_neg z ≡ true → pos (nat_abs z) ≡ z
-pos_abs (pos a) e = refl
-pos_abs (negsuc a) e = never (sym e)
-
 -- no edge yet
-pub flows_none : (ends : List ℕ) (vs : List ℤ) (sums : List ℕ) → sums ≡ replicate 552 0 → Flows 0 ends vs sums
+pub flows_none : (from to : List ℕ) (vs net : List ℤ) → net ≡ replicate 552 (pos 0) → NetFlows 0 0 from to vs net
 unfolding flow
-flows_none ends vs sums e = record {
-  long = ap length e ∙ length-replicate {A = ℕ} 552 0;
+flows_none from to vs net e = record {
+  long = ap length e ∙ length-replicate {A = ℤ} 552 (pos 0);
   at = λ v h.
-      let z : get_or sums v 0 ≡ 0 = ap (λ l. get_or l v 0) e ∙ get_or-replicate {A = ℕ} 552 v 0 0 h in
-      record { is = ap pos z ∙ sym (fold_none ◌+ℤ◌ (pos 0) (flow_at ends vs v)); small = omega arith };
+      let z : get_or net v (pos 0) ≡ pos 0 = ap (λ l. get_or l v (pos 0)) e ∙ get_or-replicate {A = ℤ} 552 v (pos 0) (pos 0) h in
+      record {
+        is = z ∙ rw (fold_none ◌+ℤ◌ (pos 0) (flow_at from vs v), fold_none ◌+ℤ◌ (pos 0) (flow_at to vs v));
+        low = rw z (omega (arith, ints));
+        high = rw z (omega (arith, ints));
+      };
 }
 
-module _ (ends : List ℕ) (vs : List ℤ) (e x : ℕ) (is : pos x ≡ value_at vs e) (small : x ≤ 1000) where
-  next : (v a b : ℕ) → pos b ≡ flow_at ends vs v e → b ≤ 1000 → Flowed e ends vs v a → Flowed (e + 1) ends vs v (a + b)
-  unfolding flow
-  next v a b q l p = record {
-    is = rw (fold_more ◌+ℤ◌ (pos 0) e (flow_at ends vs v), ← p.is, ← q);
-    small = omega (arith, p.small);
-  }
+-- what an edge adds to its node, and to no other
+flow_here : (k : ℕ) (ends : List ℕ) (vs : List ℤ) → flow (k + 1) ends vs (get_or ends k 0) ≡ flow k ends vs (get_or ends k 0) +ℤ value_at vs k
+unfolding flow
+flow_here k ends vs = rw (fold_more ◌+ℤ◌ (pos 0) k (flow_at ends vs (get_or ends k 0)), eq-eqb (get_or ends k 0) (get_or ends k 0) refl)
 
-  here : (a : ℕ) → Flowed e ends vs (get_or ends e 0) a → Flowed (e + 1) ends vs (get_or ends e 0) (a + x)
-  here a p = next (get_or ends e 0) a x (rw (eq-eqb (get_or ends e 0) (get_or ends e 0) refl) is) small p
+flow_elsewhere : (k : ℕ) (ends : List ℕ) (vs : List ℤ) (v : ℕ) → get_or ends k 0 ≢ v → flow (k + 1) ends vs v ≡ flow k ends vs v
+unfolding flow
+flow_elsewhere k ends vs v d = rw (fold_more ◌+ℤ◌ (pos 0) k (flow_at ends vs v), ne_eqb (get_or ends k 0) v d) (omega (arith, ints))
 
-  elsewhere : (v a : ℕ) → get_or ends e 0 ≢ v → Flowed e ends vs v a → Flowed (e + 1) ends vs v a
-  elsewhere v a d p = rw (add-zero a) at (next v a 0 (rw (ne_eqb (get_or ends e 0) v d)) (omega arith) p)
-
-  -- one edge more
-  pub flows_more : {sums : List ℕ} → get_or ends e 0 < 552 → Flows e ends vs sums → Flows (e + 1) ends vs (set sums (get_or ends e 0) (get_or sums (get_or ends e 0) 0 + x))
-  flows_more {sums = sums} l f =
-      let i = get_or ends e 0 in
-      let y = get_or sums i 0 + x in
+module _ {m n : ℕ} {from to : List ℕ} {vs net : List ℤ} (p : NetFlows m n from to vs net) (x : ℤ) where
+  -- one edge's value flows out of its node
+  flows_out : get_or from m 0 < 552 → (pos 0 ≤ℤ value_at vs m) × (value_at vs m ≤ℤ pos 1000) → x ≡ get_or net (get_or from m 0) (pos 0) +ℤ value_at vs m
+      → NetFlows (m + 1) n from to vs (set net (get_or from m 0) x)
+  flows_out h l e =
+      let i = get_or from m 0 in
       record {
-        long = length-set sums i y ∙ f.long;
-        at = λ v h. eq_cases i v
-            (λ q t. subst (λ w. Flowed (e + 1) ends vs w (get_or (set sums i y) w 0)) q (rw (get_or-set_same sums i y 0 (omega (arith, f.long))) (here (get_or sums i 0) (f.at i l))))
-            (λ q t. rw (get_or-set_other sums i v y 0 (λ r. q (sym r))) (elsewhere v (get_or sums v 0) q (f.at v h)));
+        long = length-set net i x ∙ p.long;
+        at = λ v g. eq_cases i v
+            (λ q t. subst (λ w. NetFlow (m + 1) n from to vs w (get_or (set net i x) w (pos 0))) q
+            (rw (get_or-set_same net i x (pos 0) (omega (arith, p.long))) (let f = p.at i h in record { is = rw (flow_here m from vs) (omega (arith, ints, f.is)); low = omega (arith, ints, f.low); high = omega (arith, ints, f.high) })))
+            (λ q t. rw (get_or-set_other net i v x (pos 0) (λ r. q (sym r))) (let f = p.at v g in record { is = rw (flow_elsewhere m from vs v q) f.is; low = f.low; high = omega (arith, ints, f.high) }));
       }
 
--- a sum is far from what its type holds
-pub flows_small : {edges : ℕ} {ends : List ℕ} {vs : List ℤ} {sums : List ℕ} → Flows edges ends vs sums → edges ≤ 2080 → (v : ℕ) → v < 552 → get_or sums v 0 ≤ 2080000
-flows_small f h v l = omega (arith, (f.at v l).small)
+  -- .. and into another
+  flows_in : get_or to n 0 < 552 → (pos 0 ≤ℤ value_at vs n) × (value_at vs n ≤ℤ pos 1000) → x ≡ get_or net (get_or to n 0) (pos 0) -ℤ value_at vs n
+      → NetFlows m (n + 1) from to vs (set net (get_or to n 0) x)
+  flows_in h l e =
+      let i = get_or to n 0 in
+      record {
+        long = length-set net i x ∙ p.long;
+        at = λ v g. eq_cases i v
+            (λ q t. subst (λ w. NetFlow m (n + 1) from to vs w (get_or (set net i x) w (pos 0))) q
+            (rw (get_or-set_same net i x (pos 0) (omega (arith, p.long))) (let f = p.at i h in record { is = rw (flow_here n to vs) (omega (arith, ints, f.is)); low = omega (arith, ints, f.low); high = omega (arith, ints, f.high) })))
+            (λ q t. rw (get_or-set_other net i v x (pos 0) (λ r. q (sym r))) (let f = p.at v g in record { is = rw (flow_elsewhere n to vs v q) f.is; low = omega (arith, ints, f.low); high = f.high }));
+      }
 
-pub flows_at : {m n : ℕ} {ends : List ℕ} {vs : List ℤ} {sums : List ℕ} → m ≡ n → Flows m ends vs sums → Flows n ends vs sums
-flows_at {ends = ends} {vs = vs} {sums = sums} e p = subst (λ k. Flows k ends vs sums) e p
+-- one step of the walk, as the code takes it
+module _ {edges e : ℕ} {from to : List ℕ} {vs net : List ℤ} (w : Walking edges from to vs) (p : NetFlows e e from to vs net) (l : e < edges) where
+  abbrev v : ℤ
+  v = value_at vs e
 
--- the two sums balance where the flows do
-pub balance_is : (nodes edges : ℕ) (from to : List ℕ) (supplies vs : List ℤ) (outs ins : List ℕ) → nodes ≤ 552 → Flows edges from vs outs → Flows edges to vs ins
-    → any_to nodes (unbalanced_by outs ins supplies) ≡ some_unbalanced nodes edges from to supplies vs
+  abbrev out : ℤ
+  out = to_z w32 (of_z w32 (to_z w32 (of_z w32 (get_or net (get_or from e 0) (pos 0))) +ℤ to_z w32 (of_z w32 v)))
+
+  half : NetFlows (e + 1) e from to vs (set net (get_or from e 0) out)
+  half = let f = p.at _ (w.from_node e l) in flows_out p out (w.from_node e l) (w.light e l) (omega (arith, ints, w.few, f.low, f.high, (w.light e l).0, (w.light e l).1))
+
+  abbrev there : ℤ
+  there = get_or (set net (get_or from e 0) out) (get_or to e 0) (pos 0)
+
+  pub in_fits : SFits w32 (to_z w32 (of_z w32 there) -ℤ to_z w32 (of_z w32 v))
+  in_fits = let f = half.at _ (w.to_node e l) in omega (arith, ints, w.few, f.low, f.high, (w.light e l).0, (w.light e l).1)
+
+  pub flows_more : NetFlows (e + 1) (e + 1) from to vs (set (set net (get_or from e 0) out) (get_or to e 0) (to_z w32 (of_z w32 (to_z w32 (of_z w32 there) -ℤ to_z w32 (of_z w32 v)))))
+  flows_more = let f = half.at _ (w.to_node e l) in flows_in half _ (w.to_node e l) (w.light e l) (omega (arith, ints, w.few, f.low, f.high, (w.light e l).0, (w.light e l).1))
+
+-- the sums balance where the flows do
+pub balance_is : (nodes edges : ℕ) (from to : List ℕ) (supplies vs net : List ℤ) → nodes ≤ 552 → NetFlows edges edges from to vs net
+    → any_to nodes (λ v. not (eq_z (get_or net v (pos 0)) (get_or supplies v (pos 0)))) ≡ some_unbalanced nodes edges from to supplies vs
 unfolding some_unbalanced
-balance_is nodes edges from to supplies vs outs ins h p q =
-    fold_ext ◌||◌ false nodes (unbalanced_by outs ins supplies) (unbalanced_at edges from to supplies vs)
-    (λ v l. rw ((p.at v (omega arith)).is, (q.at v (omega arith)).is))
+balance_is nodes edges from to supplies vs net h p =
+    fold_ext ◌||◌ false nodes (λ v. not (eq_z (get_or net v (pos 0)) (get_or supplies v (pos 0)))) (unbalanced_at edges from to supplies vs) (λ v l. rw (p.at v (omega arith)).is)

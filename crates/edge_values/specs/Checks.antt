@@ -1,7 +1,8 @@
 -- What checks 14 to 16 ask, groups as they stand one after the other, and the laws of the walks. Assumes nothing.
-use Rattle.std.specs.Prelude.{ℕ, ◌+◌, ◌-◌, ◌<◌, ◌≤◌, ◌≡◌, refl, Bool, true, false, cond, not, ◌||◌, List, eqb, ltb, ℤ, pos, negsuc, length, get_or, take, drop}
-use Rattle.std.proofs.Common.{sym, ap, ◌∙◌, add-sub_cancel, arith, ltb-false, ne_eqb}
-use Rattle.std.specs.Int.Signed.{mag, non_neg, lt_z}
+use Rattle.std.specs.Prelude.{ℕ, ◌+◌, ◌-◌, ◌<◌, ◌≤◌, ◌≡◌, refl, Bool, false, cond, not, ◌||◌, List, eqb, ℤ, pos, length, get_or, take, drop}
+use Rattle.std.proofs.Common.{sym, ap, ◌∙◌, add-sub_cancel, arith, ne_eqb}
+use Rattle.std.specs.Int.Signed.{lt_z, ◌≤ℤ◌}
+use Rattle.std.proofs.lemmas.Int.{ints}
 use Rattle.std.proofs.lemmas.Bool.{not-false}
 use Rattle.counting.specs.Fold.{any_to}
 use Rattle.counting.specs.FoldLaws.{fold_none}
@@ -40,14 +41,13 @@ pub record Grouped (groups : ℕ) (entries ends : List ℕ) (size : ℕ) : Type 
 
 -- ---- laws
 
-inside_of : (z : ℤ) (m : ℕ) → (lt_z z (pos 0) || lt_z (pos m) z) ≡ false → (non_neg z ≡ true) × (mag z ≤ m)
-inside_of (pos a) m e = let p : (ltb a 0 ≡ false) × (ltb m a ≡ false) = or_split e in (refl, ltb-false m a p.1)
-inside_of (negsuc a) m e = never e
+inside_of : (z : ℤ) (m n : ℕ) → m ≤ n → (lt_z z (pos 0) || lt_z (pos m) z) ≡ false → (pos 0 ≤ℤ z) × (z ≤ℤ pos n)
+inside_of z m n h e = let p : (lt_z z (pos 0) ≡ false) × (lt_z (pos m) z ≡ false) = or_split e in (grind (arith, ints), grind (arith, ints))
 
--- 14 passed: each value is a natural number, up to its edge's max
-pub inside_each : (edges : ℕ) (maxs : List ℕ) (vs : List ℤ) → some_outside edges maxs vs ≡ false → (e : ℕ) → e < edges → (non_neg (value_at vs e) ≡ true) × (mag (value_at vs e) ≤ get_or maxs e 0)
+-- 14 passed: each value is up to 1,000
+pub inside_each : (edges : ℕ) (maxs : List ℕ) (vs : List ℤ) → some_outside edges maxs vs ≡ false → Bounded edges maxs (length vs) → (e : ℕ) → e < edges → (pos 0 ≤ℤ value_at vs e) × (value_at vs e ≤ℤ pos 1000)
 unfolding some_outside
-inside_each edges maxs vs h e l = inside_of (value_at vs e) (get_or maxs e 0) (none_each edges (outside_at maxs vs) h e l)
+inside_each edges maxs vs h b e l = inside_of (value_at vs e) (get_or maxs e 0) 1000 (b.light e l) (none_each edges (outside_at maxs vs) h e l)
 
 -- ---- a group whose edges all have the first one's value has one value
 

@@ -4,23 +4,31 @@ ghost use Rattle.counting.specs.Fold.{any_to};
 ghost use Rattle.edge_values.specs.Values.{some_outside, some_used, is_uneven};
 ghost use Rattle.edge_values.specs.Checks.{Bounded, Naming, uneven_part, Grouped};
 
+use model_buffers::LentBuffers;
+
 // 14. An edge value lies outside 0 to the edge's max.
-pub fn some_outside(edges: usize, maxs: &[u32], values: &[i32]) -> bool
-    requires { Bounded edges maxs.now (length values.now) }
-    ensures { result ≡ some_outside edges maxs.now values.now }
+#[tactic(auto, unfolding(crate::specs::Values::some_outside))]
+pub fn some_outside(edges: usize, model: &LentBuffers, values: &[i32]) -> bool
+    requires { Bounded edges model.now.max.now (length values.now) }
+    ensures { result ≡ some_outside edges model.now.max.now values.now }
 {
-    counting::any_below(edges, |e| (values[e] < 0) | (values[e] > maxs[e] as i32))
+    counting::any_below(
+        edges,
+        |e| (values[e] < 0) | (values[e] > model.max[e] as i32),
+    )
 }
 
 // 15. A blocked edge has a value other than 0.
-pub fn some_used(n: usize, blocked: &[u16], values: &[i32]) -> bool
-    requires { Naming n blocked.now (length values.now) }
-    ensures { result ≡ some_used n blocked.now values.now }
+#[tactic(auto, unfolding(crate::specs::Values::some_used, counting::specs::Ints::eq_z))]
+pub fn some_used(blocked: usize, model: &LentBuffers, values: &[i32]) -> bool
+    requires { Naming blocked model.now.blocked.now (length values.now) }
+    ensures { result ≡ some_used blocked model.now.blocked.now values.now }
 {
-    counting::any_below(n, |i| values[blocked[i] as usize] != 0)
+    counting::any_below(blocked, |i| values[model.blocked[i] as usize] != 0)
 }
 
 // Two edges of a group differ: one differs from the first.
+#[tactic(auto, using(crate::specs::Checks::uneven_empty))]
 fn is_uneven(group: &[u16], values: &[i32]) -> bool
     requires { Naming (length group.now) group.now (length values.now) }
     ensures { result ≡ is_uneven values.now group.now }
@@ -33,15 +41,15 @@ fn is_uneven(group: &[u16], values: &[i32]) -> bool
 }
 
 // 16. Two edges of one group differ. Each group begins where the one before it ends.
-pub fn some_uneven(groups: usize, entries: &[u16], ends: &[u16], values: &[i32]) -> bool
-    requires { Grouped groups entries.now ends.now (length values.now) }
-    ensures { result ≡ any_to groups (uneven_part values.now entries.now ends.now) }
+pub fn some_uneven(groups: usize, model: &LentBuffers, values: &[i32]) -> bool
+    requires { Grouped groups model.now.entries.now model.now.ends.now (length values.now) }
+    ensures { result ≡ any_to groups (uneven_part values.now model.now.entries.now model.now.ends.now) }
 {
     let mut bad = false;
     let mut start = 0;
     for g in 0..groups {
-        let stop = ends[g] as usize;
-        bad |= is_uneven(&entries[start..stop], values);
+        let stop = model.ends[g] as usize;
+        bad |= is_uneven(&model.entries[start..stop], values);
         start = stop;
     }
     bad

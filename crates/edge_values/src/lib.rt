@@ -5,4 +5,4 @@ mod balance;
 mod checks;
 mod number;
 
-pub use number::values_number;
+pub use number::check_edge_values;

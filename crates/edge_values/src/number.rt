@@ -1,36 +1,39 @@
 // Checks 14 to 17, in their order.
-ghost use Rattle.std.specs.Prelude.{◌≡◌};
+ghost use Rattle.std.specs.Prelude.{◌≡◌, length};
+ghost use Rattle.refusal.specs.Number.{outcome};
+ghost use Rattle.model_buffers.specs.Lent.{held};
 ghost use Rattle.mip_flow_static_data.specs.Nodes.{node_count};
-ghost use Rattle.edge_values.specs.Number.{Readable, number_read};
+ghost use Rattle.edge_values.specs.Number.{Checkable, buffer_number};
 
 use crate::balance::some_unbalanced;
 use crate::checks::{some_outside, some_uneven, some_used};
 use input_data::Sizes;
-use model_buffers::Counts;
+use model_buffers::{Counts, LentBuffers};
+use refusal::Refusal;
 
-// The first of 14 to 17 that applies, or 0. The buffers hold a finished model.
-pub fn values_number(
+// The first of 14 to 17 that applies. The buffers hold a finished model, which uses so much of them.
+#[tactic(auto, unfolding(crate::specs::Number::buffer_number, input_data::specs::Checks::first_of))]
+pub fn check_edge_values(
     sizes: Sizes,
     counts: Counts,
-    supplies: &[i32],
-    from: &[u16],
-    to: &[u16],
-    max: &[u32],
-    entries: &[u16],
-    ends: &[u16],
-    blocked: &[u16],
+    model: &LentBuffers,
     values: &[i32],
-) -> u32
-    requires { Readable (node_count sizes) counts supplies from to max entries ends blocked values }
-    ensures { result ≡ number_read (node_count sizes) counts supplies from to max entries ends blocked values }
+) -> Result<(), Refusal>
+    requires { Checkable (node_count sizes) counts (held model.now) (length values.now) }
+    ensures { outcome result ≡ buffer_number (node_count sizes) counts (held model.now) values.now }
 {
-    if some_outside(counts.edges, max, values) {
-        return 14;
+    if some_outside(counts.edges, model, values) {
+        return Err(Refusal::Values);
+    }
+    if some_used(counts.blocked, model, values) {
+        return Err(Refusal::Blocked);
+    }
+    if some_uneven(counts.groups, model, values) {
+        return Err(Refusal::Uneven);
     }
     let nodes = sizes.choosers * sizes.slots + sizes.choices + sizes.slots;
-    let used = some_used(counts.blocked, blocked, values);
-    let uneven = some_uneven(counts.groups, entries, ends, values);
-    let unbalanced = some_unbalanced(nodes, counts.edges, from, to, supplies, values);
-    let from16 = input_data::first(uneven, 16, input_data::first(unbalanced, 17, 0));
-    input_data::first(used, 15, from16)
+    if some_unbalanced(nodes, counts.edges, model, values) {
+        return Err(Refusal::Unbalanced);
+    }
+    Ok(())
 }

@@ -1,14 +1,12 @@
 -- What the tests of a schedule and of a plan ask, and their laws. Assumes nothing.
-use Rattle.std.specs.Prelude.{ℕ, ◌+◌, ◌<◌, ◌≤◌, ◌≡◌, Bool, true, not, ◌&&◌, ◌||◌, List, eqb, leb, length}
+use Rattle.std.specs.Prelude.{ℕ, ◌+◌, ◌<◌, ◌≤◌, ◌≡◌, Bool, true, not, ◌&&◌, ◌||◌, List, eqb, leb}
 use Rattle.std.proofs.Common.{ap, ap₂, arith}
 use Rattle.assignment.specs.Calls.{seats}
 use Rattle.assignment.specs.Laws.{Small}
 use Rattle.counting.specs.Fold.{all_to}
 use Rattle.counting.specs.FoldLaws.{fold_ext}
-use Rattle.input_data.specs.Accepted.{AcceptedList}
-use Rattle.input_data.specs.Bytes.{IsDay, day_of}
 use Rattle.input_data.specs.declared.InputData.{InputData}
-use Rattle.satisfies_constraints.specs.Laws.{InPlan}
+use Rattle.satisfies_constraints.specs.Laws.{ScheduleRead, PlanRead}
 use Rattle.scheduling.specs.Schedule.{entry_at}
 use Rattle.seat_counts.specs.Laws.{Seated, Choices, Parts}
 use Rattle.seat_counts.specs.Seats.{filled_at, all_filled, part_count}
@@ -18,35 +16,27 @@ use Rattle.feasibility.specs.Feasible.{seats_all, all_seated}
 abbrev pub sums_seat : ℕ → ℕ → List ℕ → List ℕ → Bool
 sums_seat choosers slots mins maxs = all_to slots (λ s. leb (entry_at mins s) choosers && leb choosers (entry_at maxs s))
 
-pub record Schedulable (d : InputData) (sch : List ℕ) : Type 0 where
-  pub day : Small d
-  pub mins : Weighs sch d.mins d.choices
-  pub maxs : Weighs sch d.maxs d.choices
-  pub scheduling : AcceptedList d.choosers d.choices d.slots 1 6 d.scheduling
-  pub long : length sch ≡ 32
-
-pub record Judged (d : InputData) (sch plan : List ℕ) : Type 0 where
-  pub day : Small d
-  pub scheduling : AcceptedList d.choosers d.choices d.slots 1 6 d.scheduling
-  pub assignment : AcceptedList d.choosers d.choices d.slots 65536 65539 d.assignment
-  pub inside : InPlan d.choosers d.slots (length plan)
-  pub seated : Seated d.choosers d.slots sch plan
-  pub choices : Choices (seats d) plan
-  pub long : length sch ≡ 32
-
--- a lent day with the parts of a solution that are there
-pub record Parted (scheduled seated : Bool) (day sch : List ℕ) (size : ℕ) : Type 0 where
-  pub long : IsDay day
-  pub small : Small (day_of day)
-  pub schedule : scheduled ≡ true → length sch ≡ 32
-  pub plan : seated ≡ true → (length sch ≡ 32) × (seats (day_of day) ≤ size)
-
--- ---- laws
-
 -- a schedule of n choices, and how much they weigh by min and by max
 pub record Weighable (d : InputData) (sch : List ℕ) (n : ℕ) : Type 0 where
   pub mins : Weighs sch d.mins n
   pub maxs : Weighs sch d.maxs n
+
+pub record Schedulable (d : InputData) (sch : List ℕ) : Type 0 where
+  pub read : ScheduleRead d
+  pub sizes : Weighable d sch d.choices
+
+pub record Judged (d : InputData) (sch plan : List ℕ) : Type 0 where
+  pub scheduling : ScheduleRead d
+  pub assignment : PlanRead d plan
+  pub seated : Seated d.choosers d.slots sch plan
+  pub choices : Choices (seats d) plan
+
+-- a day within what the types hold, and a plan with room for its seats
+pub record Parted (d : InputData) (size : ℕ) : Type 0 where
+  pub small : Small d
+  pub inside : seats d ≤ size
+
+-- ---- laws
 
 -- two arrays with the sums of min and of max
 pub record SizeSums (d : InputData) (sch : List ℕ) (n : ℕ) (a c : List ℕ) : Type 0 where

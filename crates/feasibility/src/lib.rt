@@ -6,6 +6,6 @@ mod checks;
 mod plan;
 mod schedule;
 
-pub use checks::{parts_number, wrong_schedule};
-pub use plan::{assignment_holds, plan_holds};
+pub use checks::{check_parts, check_schedule};
+pub use plan::plan_holds;
 pub use schedule::schedule_holds;

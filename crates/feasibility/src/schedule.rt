@@ -1,53 +1,60 @@
 // Scheduling::is_feasible of a schedule that was accepted.
 ghost use Rattle.std.specs.Prelude.{◌≡◌, ◌≤◌};
-ghost use Rattle.counting.specs.Fold.{all_to};
-ghost use Rattle.input_data.specs.Bytes.{IsDay, day_of};
-ghost use Rattle.feasibility.specs.Feasible.{is_placed, schedule_feasible};
+ghost use Rattle.feasibility.specs.Feasible.{all_placed, schedule_feasible};
 ghost use Rattle.feasibility.specs.Laws.{sums_seat, Schedulable, Weighable, SizeSums};
-ghost use Rattle.slot_lists.specs.SumsLaws.{Unweighed};
 
-// Whether every choice without the optional mark has a slot.
-fn all_placed(choices: usize, entries: &[u8; 32], day: &[u8]) -> bool
-    requires { IsDay day.now × (choices ≤ 32) }
-    ensures { result ≡ all_to choices (is_placed (day_of day.now) entries.now) }
-{
-    counting::all_below(choices, |k| {
-        (entries[k] != 0) | input_data::optional_at(day, k)
-    })
+use input_data::Day;
+
+// The sums of min and of max of each slot.
+#[derive(Drop)]
+struct SlotSizes {
+    mins: [u32; 8],
+    maxs: [u32; 8],
 }
 
-// Whether the choosers are from the sum of min to the sum of max in every slot.
-fn all_seated<'a>(choosers: usize, slots: usize, mins: &'a [u32; 8], maxs: &'a [u32; 8]) -> bool
-    requires { slots ≤ 8 }
-    ensures { result ≡ sums_seat choosers slots mins.now maxs.now }
-{
-    counting::all_below(slots, |s| {
-        (mins[s] as usize <= choosers) & (choosers <= maxs[s] as usize)
-    })
-}
+impl SlotSizes {
+    // Both in one walk over the choices.
+    fn of(day: &Day, entries: &[u8; 32]) -> SlotSizes
+        requires { Weighable day.now entries.now day.now.choices }
+        ensures { SizeSums day.now entries.now day.now.choices result.mins result.maxs }
+    {
+        let mut mins = [0; 8];
+        let mut maxs = [0; 8];
+        for i in 0..day.choices() {
+            slot_lists::add(&mut mins, entries[i], day.min(i));
+            slot_lists::add(&mut maxs, entries[i], day.max(i));
+        }
+        SlotSizes { mins, maxs }
+    }
 
-// The sums of min and of max of each slot, in one walk over the choices.
-fn add_sizes(mins: &mut [u32; 8], maxs: &mut [u32; 8], day: &[u8], entries: &[u8; 32], n: usize)
-    requires { IsDay day.now × Unweighed mins.old maxs.old × Weighable (day_of day.now) entries.now n }
-    ensures { SizeSums (day_of day.now) entries.now n mins.new maxs.new }
-{
-    for i in 0..n {
-        slot_lists::add(mins, entries[i], input_data::min_at(day, i));
-        slot_lists::add(maxs, entries[i], input_data::max_at(day, i));
+    // Whether the choosers are from the sum of min to the sum of max in every slot.
+    fn seat_all(&self, day: &Day) -> bool
+        requires { day.now.slots ≤ 8 }
+        ensures { result ≡ sums_seat day.now.choosers day.now.slots self.now.mins self.now.maxs }
+    {
+        let choosers = day.choosers();
+        counting::all_below(day.slots(), |s| {
+            (self.mins[s] as usize <= choosers) & (choosers <= self.maxs[s] as usize)
+        })
     }
 }
 
-// The test of a schedule that was looked at.
-pub fn schedule_holds(day: &[u8], entries: &[u8; 32]) -> bool
-    requires { IsDay day.now × Schedulable (day_of day.now) entries.now }
-    ensures { result ≡ schedule_feasible (day_of day.now) entries.now }
+// Whether every choice without the optional mark has a slot.
+#[tactic(auto, unfolding(crate::specs::Feasible::all_placed))]
+fn all_placed(day: &Day, entries: &[u8; 32]) -> bool
+    requires { day.now.choices ≤ 32 }
+    ensures { result ≡ all_placed day.now entries.now }
 {
-    let choices = input_data::choices(day);
-    let mut mins = [0u32; 8];
-    let mut maxs = [0u32; 8];
-    add_sizes(&mut mins, &mut maxs, day, entries, choices);
-    let placed = all_placed(choices, entries, day);
-    let slots = input_data::slots(day);
-    let seated = all_seated(input_data::choosers(day), slots, &mins, &maxs);
-    placed & seated & satisfies_constraints::scheduling_met(choices, entries, day)
+    counting::all_below(day.choices(), |k| (entries[k] != 0) | day.optional(k))
+}
+
+// The test of a schedule that was looked at.
+#[tactic(auto, using(crate::specs::Laws::seated_sums), unfolding(crate::specs::Feasible::schedule_feasible))]
+pub fn schedule_holds(day: &Day, entries: &[u8; 32]) -> bool
+    requires { Schedulable day.now entries.now }
+    ensures { result ≡ schedule_feasible day.now entries.now }
+{
+    let seated = SlotSizes::of(day, entries).seat_all(day);
+    let placed = all_placed(day, entries);
+    placed & seated & satisfies_constraints::scheduling_met(day, entries)
 }

@@ -1,92 +1,47 @@
 // add_keyed_edge of mip_flow.rs: one edge, that of a seat or that of a scheduled choice, is stored.
-ghost use Rattle.std.specs.Prelude.{◌≡◌, ◌+◌, ◌<◌, set};
+ghost use Rattle.std.specs.Prelude.{◌<◌};
 ghost use Rattle.mip_flow.specs.Edges.{seat_at, place_at};
-ghost use Rattle.mip_flow.specs.Lent.{lent_offer, OfferLent, HasRoom, StoresSeats, StoresChoices};
-ghost use Rattle.mip_flow.specs.Stored.{tables, choices_of, Placed};
+ghost use Rattle.mip_flow.specs.Lent.{StoresSeats, StoresChoices};
+ghost use Rattle.mip_flow.specs.Stored.{choices_of, Placed, Room, SeatRoom};
 
-use input_data::Sizes;
+use input_data::{Day, Sizes};
+use mip_flow::{EdgeIndex, Offer, choice_node, choice_width, chooser_node, slot_node};
+use model_buffers::Edges;
 
-// Stores an edge as number n.
-fn put_edge(
-    from: &mut [u16],
-    to: &mut [u16],
-    max: &mut [u32],
-    cost: &mut [i64],
-    n: usize,
-    f: usize,
-    t: usize,
-    m: u32,
-    c: i64,
-)
-    requires { HasRoom from to max cost n 1 × (f < 552) × (t < 552) }
-    ensures { tables from.new to.new max.new cost.new ≡ tables (set from.old n f) (set to.old n t) (set max.old n m) (set cost.old n c) }
-{
-    from[n] = f as u16;
-    to[n] = t as u16;
-    max[n] = m;
-    cost[n] = c;
-}
-
-// Stores the edge of chooser c in slot s to choice k, and its number at its place in the index, if the
-// preference is at most the limit and no block applies.
+// Stores the edge of chooser c in slot s to choice k, and its number in the index, if the preference is at
+// most the limit and no block applies.
 pub fn put_seat(
-    sizes: Sizes,
-    limit: u32,
-    preferences: &[u32],
-    blocks: &[bool; 2048],
-    costs: &[i64],
+    offer: &Offer,
     c: usize,
     s: usize,
     k: usize,
-    from: &mut [u16],
-    to: &mut [u16],
-    max: &mut [u32],
-    cost: &mut [i64],
-    index: &mut [u16; 2048],
-    n: usize,
-) -> usize
-    requires { OfferLent sizes limit preferences blocks costs × (c < sizes.choosers) × (s < sizes.slots) × (k < sizes.choices)
-        × HasRoom from to max cost n 1 }
-    ensures { StoresSeats (lent_offer sizes limit preferences blocks costs) n
-        (seat_at (lent_offer sizes limit preferences blocks costs) c s k)
-        from to max cost index result }
+    edges: &mut Edges,
+    index: &mut EdgeIndex,
+)
+    requires { (c < offer.now.sizes.choosers) × (s < offer.now.sizes.slots) × (k < offer.now.sizes.choices)
+        × SeatRoom edges.old index.old 1 }
+    ensures { StoresSeats offer.now (seat_at offer.now c s k) edges index }
 {
-    let preference = preferences[c * sizes.choices + k];
-    if !mip_flow::has_edge(limit, preference, mip_flow::is_blocked(blocks, c, k)) {
-        return n;
+    if !offer.has_edge(c, k) {
+        return;
     }
-    let f = c * sizes.slots + s;
-    let t = sizes.choosers * sizes.slots + k;
-    let price = mip_flow::edge_cost(costs, preference);
-    put_edge(from, to, max, cost, n, f, t, 1, price);
-    index[32 * c + k] = n as u16;
-    n + 1
+    let sizes = offer.sizes();
+    let from = chooser_node(sizes, c, s);
+    let to = choice_node(sizes, k);
+    edges.push(from, to, 1, offer.cost(c, k));
+    index.push(c, k);
 }
 
 // Stores the edge of choice k to its slot, if it has one. It costs nothing.
-pub fn put_choice<'a>(
-    sizes: Sizes,
-    entries: &'a [u8; 32],
-    mins: &'a [u32; 32],
-    maxs: &'a [u32; 32],
-    k: usize,
-    from: &mut [u16],
-    to: &mut [u16],
-    max: &mut [u32],
-    cost: &mut [i64],
-    n: usize,
-) -> usize
-    requires { Placed (choices_of sizes entries.now mins.now maxs.now) × (k < sizes.choices)
-        × HasRoom from to max cost n 1 }
-    ensures { StoresChoices (choices_of sizes entries.now mins.now maxs.now) n (place_at entries.now k) from to max cost result }
+pub fn put_choice(sizes: Sizes, schedule: &[u8; 32], day: &Day, k: usize, edges: &mut Edges)
+    requires { Placed (choices_of sizes schedule.now day.now.mins day.now.maxs) × (k < sizes.choices) × Room edges.old 1 }
+    ensures { StoresChoices (choices_of sizes schedule.now day.now.mins day.now.maxs) (place_at schedule.now k) edges }
 {
-    let entry = entries[k] as usize;
+    let entry = schedule[k] as usize;
     if entry == 0 {
-        return n;
+        return;
     }
-    let f = sizes.choosers * sizes.slots + k;
-    let t = mip_flow::slot_node(sizes, entry - 1);
-    let m = mip_flow::choice_width(mins[k], maxs[k]);
-    put_edge(from, to, max, cost, n, f, t, m, 0);
-    n + 1
+    let from = choice_node(sizes, k);
+    let to = slot_node(sizes, entry - 1);
+    edges.push(from, to, choice_width(day.min(k), day.max(k)), 0);
 }

@@ -1,7 +1,7 @@
 -- What accepted input gives the builder of a model, and what it then leaves. Assumes nothing.
 use Rattle.std.specs.Prelude.{ℕ, zero, suc, ◌+◌, ◌*◌, ◌≤◌, ◌<◌, ◌≡◌, refl, Bool, true, false, not, ◌||◌, List, map, eqb, ℤ, replicate}
 use Rattle.std.proofs.Math.Path.{sym, ap, fun_ext}
-use Rattle.std.proofs.Common.{◌∙◌, mul-le-mul, le_refl, mul-le-mul_right, arith}
+use Rattle.std.proofs.Common.{◌∙◌, mul-le-mul, le_refl, mul-le-mul_right, arith, length-append}
 use Rattle.std.proofs.Math.Nat.{zero-add}
 use Rattle.std.proofs.Math.Dec.{ltb, eqb-suc-suc}
 use Rattle.std.proofs.Math.ListN.{length, get_or, get_or-eq_default}
@@ -13,37 +13,90 @@ use Rattle.counting.specs.Sums.{sum_zeros, sum_swap, sum_le, sum_const, sum_pick
 use Rattle.counting.specs.Tests.{or_split, none_each, lt_cases, eqb_sym}
 use Rattle.counting.specs.HoldsLaws.{holds_in}
 use Rattle.counting.specs.Written.{written}
-use Rattle.counting.specs.WrittenLaws.{written_then, Put}
+use Rattle.counting.specs.WrittenLaws.{written_append}
 use Rattle.input_data.specs.Checks.{has_bad_preferences, above_at, member_count}
 use Rattle.input_data.specs.Day.{min_at}
 use Rattle.input_data.specs.Lengths.{Within, preferences_length, costs_length, supplies_length, edges_length, group_entries_length, group_ends_length, blocked_length}
 use Rattle.input_data.specs.declared.Limits.{Limits}
 use Rattle.scheduling.specs.Schedule.{entry_at}
 use Rattle.slot_lists.specs.HeldLaws.{member}
-use Rattle.slot_lists.specs.SumsLaws.{Sums, Weighs, weighed_most}
+use Rattle.slot_lists.specs.Parts.{list_length, list_entry, Listed}
+use Rattle.slot_lists.specs.declared.lists.SlotLists.{SlotLists}
+use Rattle.slot_lists.specs.SumsLaws.{Sums, weighed_most}
 use Rattle.slot_lists.specs.Sums.{one, weight_at, weighed}
 use Rattle.blocks.specs.Blocks.{cell}
 use Rattle.blocks.specs.BlocksLaws.{cell_in}
-use Rattle.schedule_state.specs.Good.{choosers_most, choices_most, slots_most, part_in, min_most, one_most, counts_of}
+use Rattle.schedule_state.specs.Good.{choosers_most, choices_most, slots_most, part_in, min_most}
 use Rattle.mip_flow_static_data.specs.Nodes.{choice_node, supplies, Supplying}
 use Rattle.input_data.specs.declared.Sizes.{Sizes}
-use Rattle.mip_flow.specs.Edges.{open_seats, scheduled, seat_from, seat_to, seat_max, seat_cost, choice_to, choice_max, choice_cost}
-use Rattle.mip_flow.specs.Index.{no_edge, seat_cell, edge_of}
+use Rattle.mip_flow.specs.Edges.{Seat, Offered, open_seats, scheduled, seat_from, seat_to, seat_max, seat_cost, choice_to, choice_max, choice_cost}
+use Rattle.mip_flow.specs.Index.{EdgeNumbers, unnumbered, no_edge, seat_cell, edge_of}
 use Rattle.mip_flow.specs.IndexLaws.{number_at, indexed, indexed_is}
 use Rattle.model_buffers.specs.Lengths.{short_buffers, short_edges, short_groups}
-use Rattle.mip_flow.specs.Stored.{Tables, tables, Indexed, with_index, storing_seats, storing_choices, store_seats, store_choices, Room, Offered, Listed, Placed, seats_alike, choosers_most as seats_most, choices_of as choicesIn}
-use Rattle.model_buffers.specs.Buffers.{Buffers, buffers}
+use Rattle.mip_flow.specs.Stored.{Indexed, with_index, appending_seats, appending_choices, store_seats, store_choices, Room, SeatRoom, room_after, Placed, choosers_most as seats_most, choices_of as choicesIn}
+use Rattle.model_buffers.specs.Buffers.{Buffers, lengths_of}
+use Rattle.model_buffers.specs.Lent.{held, lent_with}
+use Rattle.model_buffers.specs.Appending.{Appends}
+use Rattle.model_buffers.specs.declared.buffers.LentBuffers.{LentBuffers}
+use Rattle.model_buffers.specs.declared.edges.Edges.{Edges}
+use Rattle.model_buffers.specs.declared.groups.Groups.{Groups}
 use Rattle.model_buffers.specs.declared.Lengths.{Lengths}
 use Rattle.edge_groups.specs.Grouping.{Grouping}
 use Rattle.edge_groups.specs.Names.{names, member_start}
-use Rattle.edge_groups.specs.Groups.{flat, ends_from, stored, marks_after, marks, PutGroups, GroupBuffers, group_buffers}
-use Rattle.edge_groups.specs.declared.Marks.{Marks}
+use Rattle.edge_groups.specs.Groups.{flat, ends_from, store_groups}
+use Rattle.edge_groups.specs.Stored.{ends_length, appending_groups}
+use Rattle.edge_values.specs.Values.{Network}
 use Rattle.plans.specs.Good.{Good, model_accepted, good}
 use Rattle.plans.specs.SeatPairs.{maps_length}
 use Rattle.plans.specs.Seated.{left_chooser, right_chooser}
 use Rattle.plans.specs.Model.{ModelInput, sizes_of, entries_of, count_of, list_of, offer_of, seats_of, choices_of, names_of, network_of, costs_of, wrong_model_tables, number_with}
 use Rattle.flow_model.specs.Alike.{Reading, names_same}
-use Rattle.flow_model.specs.Lent.{with_model, Buildable, ModelMade}
+use Rattle.flow_model.specs.Lent.{with_model, IsLists, Buildable, ModelMade}
+
+-- ---- the buffers of edges and of groups, as the builder takes them
+
+-- none is stored yet
+pub record NoEdges (b : LentBuffers) (e : Edges) : Type 0 where
+  pub from : e.from.now ≡ b.from.now
+  pub to : e.to.now ≡ b.to.now
+  pub max : e.max.now ≡ b.max.now
+  pub cost : e.cost.now ≡ b.cost.now
+  pub used : e.used ≡ 0
+
+pub record NoGroups (b : LentBuffers) (g : Groups) : Type 0 where
+  pub entries : g.entries.now ≡ b.entries.now
+  pub ends : g.ends.now ≡ b.ends.now
+  pub blocked : g.blocked.now ≡ b.blocked.now
+  pub entries_used : g.entries_used ≡ 0
+  pub ends_used : g.ends_used ≡ 0
+  pub blocked_used : g.blocked_used ≡ 0
+
+-- what stands in them is what buffers hold
+pub record EdgesHold (c : Buffers) (n : ℕ) (e : Edges) : Type 0 where
+  pub from : e.from.now ≡ c.from
+  pub to : e.to.now ≡ c.to
+  pub max : e.max.now ≡ c.max
+  pub cost : e.cost.now ≡ c.cost
+  pub used : e.used ≡ n
+
+pub record GroupsHold (c : Buffers) (m : Network) (g : Groups) : Type 0 where
+  pub entries : g.entries.now ≡ c.entries
+  pub ends : g.ends.now ≡ c.ends
+  pub blocked : g.blocked.now ≡ c.blocked
+  pub entries_used : g.entries_used ≡ length (flat m.groups)
+  pub ends_used : g.ends_used ≡ length m.groups
+  pub blocked_used : g.blocked_used ≡ length m.blocked
+
+-- buffers hold these supplies, edges and groups
+pub record Holding (c : Buffers) (supplied : List ℤ) (e : Edges) (g : Groups) : Type 0 where
+  pub supplies : c.supplies ≡ supplied
+  pub from : c.from ≡ e.from.now
+  pub to : c.to ≡ e.to.now
+  pub max : c.max ≡ e.max.now
+  pub cost : c.cost ≡ e.cost.now
+  pub entries : c.entries ≡ g.entries.now
+  pub ends : c.ends ≡ g.ends.now
+  pub blocked : c.blocked ≡ g.blocked.now
 
 -- ---- lengths that were tested
 
@@ -139,17 +192,11 @@ module _ {l : Limits} {x : ModelInput} (g : Good l x) where
   abbrev f : ℕ → ℕ
   f = entry_at (entries_of x)
 
-  -- the lengths that the code sums are those of the lists, in every slot
-  pub counts_are : {a : List ℕ} → Sums (entry_at (replicate 32 1)) f x.day.choices a → entry_at a ≡ count_of x
-  counts_are {a = a} p =
-      let q = counts_of (choices_most g.ready) p in
-      fun_ext (λ s. lt_cases s 8
+  -- the sums of the state's schedule are the lists' lengths, in every slot
+  pub counts_are : {a : List ℕ} → Sums one f x.day.choices a → entry_at a ≡ count_of x
+  counts_are {a = a} q = fun_ext (λ s. lt_cases s 8
       (λ b v. q.at s b)
       (λ b v. get_or-eq_default {A = ℕ} a 0 {n = s} (omega (arith, q.long)) ∙ sym (weighed_out f x.day.choices x.day.slots s g.fits (omega (arith, slots_most g.ready)))))
-
-  -- the schedule can be summed over
-  pub weighs_ones : Weighs (entries_of x) (replicate 32 1) x.day.choices
-  weighs_ones = record { count = choices_most g.ready; small = λ k b. omega (arith, g.fits k b, slots_most g.ready); light = one_most g.ready }
 
   pub count_most : (s : ℕ) → count_of x s ≤ l.choices
   count_most s = omega (arith, weighed_most one f x.day.choices s 1 (λ k b. le_refl 1), g.ready.day.choices)
@@ -164,20 +211,22 @@ module _ {l : Limits} {x : ModelInput} (g : Good l x) where
       below : {k : ℕ} → member f x.day.choices s k ≡ true → k < x.day.choices
       below {k = k} t = lt_cases k x.day.choices (λ u v. u) (λ u v. absurd (let z : ◌≡◌ {A = Bool} true false = sym t ∙ rw v refl in let y : ◌≡◌ {A = ℕ} 0 1 = cc in omega arith))
 
-  -- one slot's
-  pub count_at : (a : List ℕ) → entry_at a ≡ count_of x → (s : ℕ) → entry_at a s ≡ count_of x s
-  count_at a q s = ap (λ (h : ℕ → ℕ). h s) q
+  -- the lists as the builder has them
+  module _ {s : SlotLists} (q : IsLists l x s) where
+    count_at : (i : ℕ) → entry_at s.lens i ≡ count_of x i
+    count_at i = ap (λ (h : ℕ → ℕ). h i) q.lens
 
-  counts_few : (a : List ℕ) → entry_at a ≡ count_of x → sum_to x.day.slots (entry_at a) ≡ sum_to x.day.slots (count_of x)
-  counts_few a q = ap (λ (h : ℕ → ℕ). sum_to x.day.slots h) q
+    counts_few : sum_to x.day.slots (list_length s) ≡ sum_to x.day.slots (count_of x)
+    counts_few = ap (λ (h : ℕ → ℕ). sum_to x.day.slots h) q.lens
 
-  pub listed_in : (a : List ℕ) → entry_at a ≡ count_of x → Listed (sizes_of l x.day) x.lists a
-  listed_in a q = record {
-    fits = λ s b. omega (arith, count_at a q s, count_most s);
-    part = λ s b. part_in g.ready s b;
-    choice = λ s j b c. listed_below s j b (omega (arith, count_at a q s));
-    few = omega (arith, counts_few a q, counts_all);
-  }
+    pub listed_in : Listed x.day.slots x.day.choices s
+    listed_in = record {
+      most = slots_most g.ready;
+      fits = λ i b. omega (arith, count_at i, count_most i, q.stride);
+      part = λ i b. rw (q.stride, q.bytes) (part_in g.ready i b);
+      choice = λ i j b c. rw (q.stride, q.bytes) (listed_below i j b (omega (arith, count_at i)));
+      few = omega (arith, counts_few, counts_all);
+    }
 
   pub supplying : (size : ℕ) → supplies_length l ≤ size → Supplying (sizes_of l x.day) x.day.mins x.state.covered size
   supplying size h = record {
@@ -224,67 +273,54 @@ module _ {l : Limits} {x : ModelInput} (g : Good l x) where
   unfolding member_start member_count
   members_are = sym (sum_below 16 x.day.groups (entry_at x.day.lengths) g.ready.day.groups)
 
-  module _ {lens : Lengths} {short : Bool} (t : Lent l x lens short) where
-    -- the seats' edges fit into tables of these lengths
-    pub edge_room : (b : Tables) (a : List ℕ) → entry_at a ≡ count_of x → length b.from ≡ lens.from → length b.to ≡ lens.to → length b.max ≡ lens.max → length b.cost ≡ lens.cost
-        → Room b 0 (x.day.choosers * sum_to x.day.slots (entry_at a))
-    edge_room b a q hf ht hm hc =
-        let z = counts_few a q in
-        let y = ap (λ n. x.day.choosers * n) z in
-        let h = all_edges (x.day.choosers * sum_to x.day.slots (count_of x)) (le_refl _) in
-        let s = mul-le-mul g.ready.within.choosers g.ready.within.choices in
-        let k = g.ready.within.choices in
-        record {
-          from = omega (arith, y, h, hf, t.long.from);
-          to = omega (arith, y, h, ht, t.long.to);
-          max = omega (arith, y, h, hm, t.long.max);
-          cost = omega (arith, y, h, hc, t.long.cost);
-          small = omega (arith, y, h, s, k);
-        }
+  -- the seats of the call's lists
+  abbrev seats_by : SlotLists → List Seat
+  seats_by s = open_seats (offer_of l x) (list_length s) (list_entry s)
 
-    few_seats : (a : List ℕ) → entry_at a ≡ count_of x → length (open_seats (offer_of l x) (entry_at a) (list_of l x)) + x.day.choices ≤ edges_length l
+  module _ (b : LentBuffers) {short : Bool} (t : Lent l x (lengths_of (held b)) short) {s : SlotLists} (q : IsLists l x s) where
+    few_edges : x.day.choosers * sum_to x.day.slots (list_length s) + x.day.choices ≤ edges_length l
+    few_edges = all_edges _ (omega (arith, ap (λ n. x.day.choosers * n) (counts_few q)))
+
+    few_seats : length (seats_by s) + x.day.choices ≤ edges_length l
     unfolding open_seats
-    few_seats a q = all_edges _ (omega (arith, seats_most (offer_of l x) (entry_at a) (list_of l x) x.day.choosers, ap (λ n. x.day.choosers * n) (counts_few a q)))
+    few_seats = omega (arith, few_edges, seats_most (offer_of l x) (list_length s) (list_entry s) x.day.choosers)
 
-    -- .. and those of the choices after them
-    pub choice_room : (b b' : Indexed) (n : ℕ) (a : List ℕ) → entry_at a ≡ count_of x → length b.tables.from ≡ lens.from → length b.tables.to ≡ lens.to → length b.tables.max ≡ lens.max → length b.tables.cost ≡ lens.cost
-        → Put (storing_seats (offer_of l x)) b 0 (open_seats (offer_of l x) (entry_at a) (list_of l x)) b' n → Room b'.tables n x.day.choices
-    choice_room b b' n a q hf ht hm hc p =
-        let h = few_seats a q in
-        let s = mul-le-mul g.ready.within.choosers g.ready.within.choices in
-        let k = g.ready.within.choices in
-        let u = seats_alike (offer_of l x) p in
-        let c = p.count in
+    edges_most : edges_length l ≤ 2080
+    edges_most = omega (arith, mul-le-mul g.ready.within.choosers g.ready.within.choices, g.ready.within.choices)
+
+    module _ {e₀ : Edges} (k : NoEdges b e₀) where
+      room : (m : ℕ) → m ≤ edges_length l → SeatRoom e₀ unnumbered m
+      room m h = record {
+        edges = rw (k.from, k.to, k.max, k.cost, k.used) (record { from = omega (arith, t.long.from); to = omega (arith, t.long.to); max = omega (arith, t.long.max); cost = omega (arith, t.long.cost) });
+        numbers = omega (arith, edges_most);
+      }
+
+      -- the seats' edges fit into the buffers ..
+      pub seat_room : SeatRoom e₀ unnumbered (x.day.choosers * sum_to x.day.slots (list_length s))
+      seat_room = room _ (omega (arith, few_edges))
+
+      -- .. and those of the choices after them
+      pub choice_room : {e : Edges} {i : EdgeNumbers} → Appends (appending_seats (offer_of l x)) (with_index e₀ unnumbered) (seats_by s) (with_index e i) → Room e x.day.choices
+      choice_room p = (room_after (offer_of l x) x.day.choices p (room _ few_seats) (le_refl _)).edges
+
+    -- groups and blocked edges too
+    pub grouping : {g₀ : Groups} → NoGroups b g₀ → Grouping (sizes_of l x.day) s x.day g₀
+    grouping k =
+        let h = listed_in q in
         record {
-          from = omega (arith, h, c, u.from, hf, t.long.from);
-          to = omega (arith, h, c, u.to, ht, t.long.to);
-          max = omega (arith, h, c, u.max, hm, t.long.max);
-          cost = omega (arith, h, c, u.cost, hc, t.long.cost);
-          small = omega (arith, h, c, s, k);
+          choosers = choosers_most g.ready;
+          listed = record { most = h.most; fits = h.fits; part = h.part; choice = λ i j u v. omega (arith, h.choice i j u v, choices_most g.ready); few = omega (arith, h.few, choices_most g.ready) };
+          constraints = record {
+            count = g.ready.day.assignment.count;
+            names = λ j u e. (omega (arith, left_chooser g.ready.day j u e, choosers_most g.ready), omega (arith, right_chooser g.ready.day j u e, choosers_most g.ready));
+          };
+          dependent = record {
+            count = g.ready.day.groups;
+            few = omega (arith, members_are, g.ready.day.members);
+            each = λ i u. omega (arith, g.ready.day.member i (rw members_are at u), choices_most g.ready);
+          };
+          room = rw (k.entries, k.ends, k.blocked, k.entries_used, k.ends_used, k.blocked_used) (record { small = omega arith; entries = omega (arith, t.long.entries); ends = omega (arith, t.long.ends); blocked = omega (arith, t.long.blocked) });
         }
-
-    pub seats_few : (b b' : Indexed) (n : ℕ) (a : List ℕ) → entry_at a ≡ count_of x → Put (storing_seats (offer_of l x)) b 0 (open_seats (offer_of l x) (entry_at a) (list_of l x)) b' n → n ≤ 2080
-    seats_few b b' n a q p = omega (arith, few_seats a q, p.count, mul-le-mul g.ready.within.choosers g.ready.within.choices, g.ready.within.choices)
-
-    pub grouping : (n : ℕ) (a : List ℕ) → n ≤ 2080 → entry_at a ≡ count_of x
-        → Grouping n (sizes_of l x.day) x.lists a x.day.assignment x.day.groups x.day.lengths x.day.members lens.entries lens.ends lens.blocked
-    grouping n a h q = record {
-      edges = h;
-      choosers = choosers_most g.ready;
-      slots = slots_most g.ready;
-      short = λ s b. omega (arith, count_at a q s, count_most s);
-      part = λ s b. part_in g.ready s b;
-      choice = λ s j b c. let h : j < count_of x s = omega (arith, count_at a q s) in omega (arith, listed_below s j b h, choices_most g.ready);
-      in_all = omega (arith, counts_few a q, counts_all, choices_most g.ready);
-      constraints = g.ready.day.assignment.count;
-      names = λ j b e. (omega (arith, left_chooser g.ready.day j b e, choosers_most g.ready), omega (arith, right_chooser g.ready.day j b e, choosers_most g.ready));
-      groups_most = g.ready.day.groups;
-      members_most = omega (arith, members_are, g.ready.day.members);
-      member = λ i b. omega (arith, g.ready.day.member i (rw members_are at b), choices_most g.ready);
-      entries_room = t.long.entries;
-      ends_room = t.long.ends;
-      blocked_room = t.long.blocked;
-    }
 
 -- ---- what the builder leaves
 
@@ -297,42 +333,70 @@ reading g = record {
   member = λ i b. omega (arith, g.ready.day.member i (rw (members_are g) at b), choices_most g.ready);
 }
 
-module _ {l : Limits} {x : ModelInput} (g : Good l x) (b : Buffers) (a : List ℕ) (counted : entry_at a ≡ count_of x) where
+module _ {l : Limits} {x : ModelInput} (g : Good l x) (b : LentBuffers) {s : SlotLists} (q : IsLists l x s) where
   abbrev z : Sizes
   z = sizes_of l x.day
 
-  -- the stages, one after the other, make the model
-  pub made : {s : List ℤ} {f t m : List ℕ} {q : List ℤ} {idx : List ℕ} {n : ℕ} {f' t' m' : List ℕ} {q' : List ℤ} {n' : ℕ} {e d k : List ℕ} {r : Marks}
-      → s ≡ written b.supplies 0 (supplies z (entries_of x) x.day.mins x.state.covered)
-      → Put (storing_seats (offer_of l x)) (with_index b.from b.to b.max b.cost (replicate 2048 no_edge)) 0 (open_seats (offer_of l x) (entry_at a) (list_of l x)) (with_index f t m q idx) n
-      → Put (storing_choices (choicesIn z (entries_of x) x.day.mins x.day.maxs)) (tables f t m q) n (scheduled x.day.choices (entries_of x)) (tables f' t' m' q') n'
-      → PutGroups n (group_buffers b.entries b.ends b.blocked) (marks 0 0 0) (names (number_at idx) z (entries_of x) (entry_at a) (list_of l x) x.day.assignment x.day.groups x.day.lengths x.day.members) (group_buffers e d k) r
-      → ModelMade l x b (buffers s f' t' m' q' e d k) idx (record { lens = a; seats = n; edges = n'; entries = r.entries; groups = r.groups; blocked = r.blocked })
-  unfolding seats_of choices_of names_of network_of costs_of with_model storing_seats store_seats storing_choices store_choices stored marks_after edge_of
-  made {s = s} {f = f} {t = t} {m = m} {q = q} {idx = idx} {n = n} {f' = f'} {t' = t'} {m' = m'} {q' = q'} {n' = n'} {e = e} {d = d} {k = k} {r = r} hs pe pc pg =
-      let ss = seats_of l x in
-      let ks = choices_of x in
-      let pe' : Put (storing_seats (offer_of l x)) (with_index b.from b.to b.max b.cost (replicate 2048 no_edge)) 0 (seats_of l x) (with_index f t m q idx) n = rw counted at pe in
-      let hn : n ≡ length (seats_of l x) = pe'.count ∙ zero-add _ in
-      let hi : idx ≡ indexed (replicate 2048 no_edge) 0 (map seat_cell (seats_of l x)) = ap (λ (y : Indexed). y.index) pe'.holds in
-      let hw : (c k : ℕ) → c < 64 → k < 32 → number_at idx c k ≡ edge_of (seats_of l x) c k = (λ c k hc hk. ap (λ d. get_or d (cell c k) 0) hi ∙ indexed_is 2048 (map seat_cell (seats_of l x)) (cell c k) (cell_in c k hc hk)) in
-      let hl : names (number_at idx) z (entries_of x) (count_of x) (list_of l x) x.day.assignment x.day.groups x.day.lengths x.day.members ≡ names_of l x = names_same (number_at idx) (edge_of (seats_of l x)) hw z (entries_of x) (count_of x) (list_of l x) x.day.assignment x.day.groups x.day.lengths x.day.members (reading g) in
-      let ha : n' ≡ length (network_of l x).from = pc.count ∙ rw hn (sym (maps_length (seat_from z) (choice_node z) (seats_of l x) (choices_of x))) in
-      let hf : f' ≡ written b.from 0 (network_of l x).from = written_then b.from 0 (map (seat_from z) (seats_of l x)) (map (choice_node z) (choices_of x)) n (ap (λ (y : Indexed). y.tables.from) pe'.holds) (ap (λ (y : Tables). y.from) pc.holds) (hn ∙ sym (length-map (seats_of l x) (seat_from z)) ∙ sym (zero-add _)) in
-      let ht : t' ≡ written b.to 0 (network_of l x).to = written_then b.to 0 (map (seat_to z) (seats_of l x)) (map (choice_to z (entries_of x)) (choices_of x)) n (ap (λ (y : Indexed). y.tables.to) pe'.holds) (ap (λ (y : Tables). y.to) pc.holds) (hn ∙ sym (length-map (seats_of l x) (seat_to z)) ∙ sym (zero-add _)) in
-      let hm : m' ≡ written b.max 0 (network_of l x).max = written_then b.max 0 (map seat_max (seats_of l x)) (map (choice_max x.day.mins x.day.maxs) (choices_of x)) n (ap (λ (y : Indexed). y.tables.max) pe'.holds) (ap (λ (y : Tables). y.max) pc.holds) (hn ∙ sym (length-map (seats_of l x) seat_max) ∙ sym (zero-add _)) in
-      let hq : q' ≡ written b.cost 0 (costs_of l x) = written_then b.cost 0 (map (seat_cost (offer_of l x)) (seats_of l x)) (map choice_cost (choices_of x)) n (ap (λ (y : Indexed). y.tables.cost) pe'.holds) (ap (λ (y : Tables). y.cost) pc.holds) (hn ∙ sym (length-map (seats_of l x) (seat_cost (offer_of l x))) ∙ sym (zero-add _)) in
-      let pg' : PutGroups (length (seats_of l x)) (group_buffers b.entries b.ends b.blocked) (marks 0 0 0) (names_of l x) (group_buffers e d k) r = rw hl at (rw (hn, counted) at pg) in
-      let he : e ≡ written b.entries 0 (flat (network_of l x).groups) = ap (λ (y : GroupBuffers). y.entries) pg'.holds in
-      let hd : d ≡ written b.ends 0 (ends_from 0 (network_of l x).groups) = ap (λ (y : GroupBuffers). y.ends) pg'.holds in
-      let hk : k ≡ written b.blocked 0 (network_of l x).blocked = ap (λ (y : GroupBuffers). y.blocked) pg'.holds in
-      record {
-        buffers = rw (hs, hf, ht, hm, hq, he, hd, hk);
-        numbers = hw;
-        lens = counted;
-        seats = hn;
-        edges = ha;
-        entries = ap (λ (y : Marks). y.entries) pg'.counts ∙ zero-add _;
-        groups = ap (λ (y : Marks). y.groups) pg'.counts ∙ zero-add _;
-        blocked = ap (λ (y : Marks). y.blocked) pg'.counts ∙ zero-add _;
-      }
+  -- the call's seats are those of the definition
+  seats_are : seats_by g s ≡ seats_of l x
+  unfolding seats_of
+  seats_are = rw (q.lens, q.bytes, q.stride) refl
+
+  -- the seats' edges were stored: the buffers and the numbers
+  module _ {e₀ e : Edges} {i : EdgeNumbers} (k : NoEdges b e₀) (p : Appends (appending_seats (offer_of l x)) (with_index e₀ unnumbered) (seats_by g s) (with_index e i)) where
+    numbered : i ≡ record { numbers = indexed (replicate 2048 no_edge) 0 (map seat_cell (seats_of l x)); count = 0 + length (seats_of l x) }
+    unfolding store_seats
+    numbered = rw (ap (λ (y : Indexed). y.index) p.holds, seats_are) refl
+
+    count_is : i.count ≡ length (seats_of l x)
+    count_is = ap (λ (y : EdgeNumbers). y.count) numbered ∙ zero-add _
+
+    numbers_are : (c k : ℕ) → c < 64 → k < 32 → number_at i.numbers c k ≡ edge_of (seats_of l x) c k
+    unfolding edge_of
+    numbers_are c j hc hj = rw numbered (indexed_is 2048 (map seat_cell (seats_of l x)) (cell c j) (cell_in c j hc hj))
+
+    -- then those of the choices
+    edges_are : {e' : Edges} → Appends (appending_choices (choicesIn z (entries_of x) x.day.mins x.day.maxs)) e (scheduled x.day.choices (entries_of x)) e'
+        → EdgesHold (with_model l x (held b)) (length (network_of l x).from) e'
+    unfolding with_model network_of costs_of choices_of store_seats store_choices
+    edges_are r = rw (r.holds, ap (λ (y : Indexed). y.edges) p.holds, seats_are, k.from, k.to, k.max, k.cost, k.used) (record {
+      from = simp (written_append, length-map);
+      to = simp (written_append, length-map);
+      max = simp (written_append, length-map);
+      cost = simp (written_append, length-map);
+      used = simp (length-append, length-map, zero-add);
+    })
+
+    -- the call's names are those of the definition
+    names_are : names (number_at i.numbers) z (entries_of x) (list_length s) (list_entry s) x.day.assignment x.day.groups x.day.lengths x.day.members ≡ names_of l x
+    unfolding names_of
+    names_are = rw (q.lens, q.bytes, q.stride)
+        (names_same (number_at i.numbers) (edge_of (seats_of l x)) numbers_are z (entries_of x) (count_of x) (list_of l x) x.day.assignment x.day.groups x.day.lengths x.day.members (reading g))
+
+    -- and then the groups
+    groups_are : {g₀ gs : Groups} → NoGroups b g₀ → Appends (appending_groups i.count) g₀ (names (number_at i.numbers) z (entries_of x) (list_length s) (list_entry s) x.day.assignment x.day.groups x.day.lengths x.day.members) gs
+        → GroupsHold (with_model l x (held b)) (network_of l x) gs
+    unfolding with_model network_of store_groups
+    groups_are j r = rw (r.holds, names_are, count_is, j.entries, j.ends, j.blocked, j.entries_used, j.ends_used, j.blocked_used) (record { entries = refl; ends = refl; blocked = refl; entries_used = zero-add _; ends_used = zero-add _; blocked_used = zero-add _ })
+
+    -- the stages, one after the other, make the model
+    pub made : {e' : Edges} {g₀ gs : Groups} {c : Buffers} → NoGroups b g₀
+        → Appends (appending_choices (choicesIn z (entries_of x) x.day.mins x.day.maxs)) e (scheduled x.day.choices (entries_of x)) e'
+        → Appends (appending_groups i.count) g₀ (names (number_at i.numbers) z (entries_of x) (list_length s) (list_entry s) x.day.assignment x.day.groups x.day.lengths x.day.members) gs
+        → Holding c (written b.supplies.now 0 (supplies z (entries_of x) x.day.mins x.state.covered)) e' gs
+        → ModelMade l x b (lent_with b c) (record { sizes = z; lists = s; index = i; counts = record { edges = e'.used; entries = gs.entries_used; groups = gs.ends_used; blocked = gs.blocked_used } })
+    unfolding with_model network_of
+    made j pc pg h =
+        let es = edges_are pc in
+        let fs = groups_are j pg in
+        record {
+          buffers = rw (h.supplies, h.from, h.to, h.max, h.cost, h.entries, h.ends, h.blocked, es.from, es.to, es.max, es.cost, fs.entries, fs.ends, fs.blocked) refl;
+          numbers = numbers_are;
+          seats = count_is;
+          sizes = refl;
+          lists = q;
+          edges = es.used;
+          entries = fs.entries_used;
+          groups = fs.ends_used;
+          blocked = fs.blocked_used;
+        }

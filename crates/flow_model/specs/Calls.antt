@@ -1,12 +1,17 @@
 -- What the calls that build a model and check values give and leave: SPEC 3.22, 6.13, 7.7. Definitions only.
-use Rattle.std.specs.Prelude.{ℕ, ◌≡◌, cond, List, eqb, ℤ, length}
+use Rattle.std.specs.Prelude.{ℕ, ◌≡◌, cond, List, eqb, ℤ, Result, length}
 use Rattle.counting.specs.Written.{written}
+use Rattle.refusal.specs.declared.Refusal.{Refusal}
 use Rattle.input_data.specs.Bytes.{lent_number}
 use Rattle.input_data.specs.declared.Limits.{Limits}
 use Rattle.schedule_state.specs.Bytes.{not_state}
 use Rattle.model_buffers.specs.Answers.{model_answer, model_refused}
 use Rattle.model_buffers.specs.Buffers.{Buffers, lengths_of}
+use Rattle.model_buffers.specs.Answered.{model_answered}
+use Rattle.model_buffers.specs.Lent.{held, lent_with}
+use Rattle.model_buffers.specs.declared.Counts.{Counts}
 use Rattle.model_buffers.specs.declared.ModelAnswer.{ModelAnswer}
+use Rattle.model_buffers.specs.declared.buffers.LentBuffers.{LentBuffers}
 use Rattle.edge_groups.specs.Groups.{flat}
 use Rattle.edge_values.specs.Values.{values_number}
 use Rattle.plans.specs.Model.{ModelInput, network_of, plan_of, model_number, enter_number}
@@ -45,3 +50,15 @@ ModelLent l day st x b b' r = ModelLeaves (lent_number l day (not_state st) (mod
 abbrev pub ValuesLent : Limits → List ℕ → List ℕ → ModelInput → List ℤ → Buffers → List ℕ → Buffers → List ℕ → ModelAnswer → Type 0
 ValuesLent l day st x vs b plan b' plan' r =
     ValuesLeaves (lent_number l day (not_state st) (enter_number l x (lengths_of b) (length vs) (length plan))) l x vs b plan b' plan' r
+
+-- ---- the calls, on lent structs
+
+-- the call that builds a model
+pub record ModelBuilt (l : Limits) (day st : List ℕ) (x : ModelInput) (b b' : LentBuffers) (r : Result Counts Refusal) : Type 0 where
+  pub lent : ModelLent l day st x (held b) (held b') (model_answered r)
+  pub same : b' ≡ lent_with b (held b')
+
+-- the call that checks values
+pub record ValuesChecked (l : Limits) (day st : List ℕ) (x : ModelInput) (vs : List ℤ) (b : LentBuffers) (plan : List ℕ) (b' : LentBuffers) (plan' : List ℕ) (r : Result Counts Refusal) : Type 0 where
+  pub lent : ValuesLent l day st x vs (held b) plan (held b') plan' (model_answered r)
+  pub same : b' ≡ lent_with b (held b')

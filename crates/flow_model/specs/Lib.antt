@@ -4,3 +4,4 @@ pub mod Calls
 pub mod Alike
 pub mod Building
 pub mod Entering
+pub mod Made

@@ -2,15 +2,21 @@
 // the lent buffers.
 #![tactic(auto)]
 
+mod input;
 mod model;
-mod number;
 
+use input_data::Sizes;
+use mip_flow::EdgeIndex;
 pub use model::enter;
 use model_buffers::Counts;
+use slot_lists::SlotLists;
 
-// The number of a call before values are looked at and, where that is 0, what its model uses.
-#[derive(Clone, Copy)]
-pub struct Entered {
-    pub number: u32,
+// A model that stands in the lent buffers: the slots' lists that it was made by, the numbers of its
+// seats' edges, and how much of the buffers it uses.
+#[derive(Drop)]
+pub struct FlowModel<'a> {
+    pub sizes: Sizes,
+    pub lists: SlotLists<'a>,
+    pub index: EdgeIndex,
     pub counts: Counts,
 }

@@ -1,170 +1,107 @@
 // The flow model of a state at a preference limit, in the lent buffers.
-ghost use Rattle.std.specs.Prelude.{◌≡◌, replicate};
+ghost use Rattle.std.specs.Prelude.{◌≡◌};
 ghost use Rattle.input_data.specs.Lengths.{Within};
-ghost use Rattle.model_buffers.specs.Buffers.{buffers, lengths_of};
-ghost use Rattle.plans.specs.Model.{model_input};
-ghost use Rattle.flow_model.specs.Lent.{lent_input, Buildable, ModelMade, EnteredLent};
+ghost use Rattle.model_buffers.specs.Buffers.{lengths_of};
+ghost use Rattle.model_buffers.specs.Lent.{held};
+ghost use Rattle.plans.specs.Model.{sizes_of};
+ghost use Rattle.flow_model.specs.Lent.{input_of, call_input, IsLists, Buildable, ModelMade, EnteredLent};
 
-use crate::Entered;
-use crate::number::number_with;
-use input_data::{InputData, Limits, Sizes};
-use model_buffers::{Counts, Lengths};
-use schedule_state::AssignmentScheduleState;
+use crate::FlowModel;
+use crate::input::check_input;
+use create_edge_groups::put_groups;
+use flow_edges::{put_choices, put_seats};
+use input_data::{Day, Limits, Sizes};
+use mip_flow::{EdgeIndex, Offer};
+use mip_flow_static_data::put_supplies;
+use model_buffers::{Counts, Edges, Groups, LentBuffers, LentInput};
+use refusal::Refusal;
+use schedule_state::{AssignmentScheduleState, LentState};
+use scheduling::kept;
+use slot_lists::SlotLists;
 
-// Writes the model of tested input into the buffers, and the numbers of the seats' edges into the index.
-fn put_model(
-    limits: Limits,
-    day: InputData,
-    state: AssignmentScheduleState,
-    limit: u32,
-    preferences: &[u32],
-    costs: &[i64],
-    lists: &[u8],
-    supplies: &mut [i32],
-    from: &mut [u16],
-    to: &mut [u16],
-    max: &mut [u32],
-    cost: &mut [i64],
-    entries: &mut [u16],
-    ends: &mut [u16],
-    blocked: &mut [u16],
-    index: &mut [u16; 2048],
-) -> Counts
-    requires { Buildable limits (model_input day state limit preferences.now costs.now lists.now)
-        (lengths_of (buffers supplies.old from.old to.old max.old cost.old entries.old ends.old blocked.old))
-        × (index.old ≡ replicate 2048 65535) }
-    ensures { ModelMade limits (model_input day state limit preferences.now costs.now lists.now)
-        (buffers supplies.old from.old to.old max.old cost.old entries.old ends.old blocked.old)
-        (buffers supplies.new from.new to.new max.new cost.new entries.new ends.new blocked.new) index.new result }
+// The day's sizes, and the stride of its slots' lists.
+fn sizes_of(limits: Limits, day: &Day) -> Sizes
+    ensures { result ≡ sizes_of limits day.now }
 {
-    let sizes = Sizes {
+    Sizes {
         stride: limits.choices,
-        choosers: day.choosers,
-        choices: day.choices,
-        slots: day.slots,
-    };
-    let schedule = scheduling::kept(day.choices, &state.schedule.entries);
-    let lens = slot_lists::sums(&schedule, &schedule_state::ones(), day.choices);
-    mip_flow_static_data::put_supplies(sizes, &schedule, &day.mins, &state.covered, supplies);
-    let seats = flow_edges::put_seats(
-        sizes,
-        limit,
-        preferences,
-        &state.blocks,
-        costs,
-        lists,
-        &lens,
-        from,
-        to,
-        max,
-        cost,
-        index,
-    );
-    let edges = flow_edges::put_choices(
-        sizes, &schedule, &day.mins, &day.maxs, from, to, max, cost, seats,
-    );
-    let marks = create_edge_groups::put_groups(
-        seats,
-        sizes,
-        index,
-        lists,
-        &lens,
-        &schedule,
-        day.assignment,
-        day.groups,
-        &day.lengths,
-        &day.members,
-        entries,
-        ends,
-        blocked,
-    );
-    Counts {
-        lens,
-        seats,
-        edges,
-        entries: marks.entries,
-        groups: marks.groups,
-        blocked: marks.blocked,
+        choosers: day.choosers(),
+        choices: day.choices(),
+        slots: day.slots(),
     }
 }
 
-// Tests the input of a call and writes its model, within limits. The index has the numbers of the seats'
-// edges afterwards. `short`: another buffer that the call is lent is too short.
-pub fn enter(
+// Writes the model of tested input into the buffers.
+fn put_model<'a>(
+    limits: Limits,
+    day: &Day,
+    state: &AssignmentScheduleState,
+    input: &LentInput,
+    lists: SlotLists<'a>,
+    buffers: &mut LentBuffers,
+) -> FlowModel<'a>
+    requires { Buildable limits (input_of day.now state.now input.now) (lengths_of (held buffers.old))
+        × IsLists limits (input_of day.now state.now input.now) lists }
+    ensures { ModelMade limits (input_of day.now state.now input.now) buffers.old buffers.new result }
+{
+    let sizes = sizes_of(limits, day);
+    let schedule = kept(sizes.choices, &state.schedule.entries);
+    let offer = Offer::of(sizes, input, &state.blocks);
+    let mut index = EdgeIndex::none();
+    put_supplies(sizes, &schedule, day, &state.covered, buffers.supplies);
+    let mut edges = Edges {
+        from: buffers.from,
+        to: buffers.to,
+        max: buffers.max,
+        cost: buffers.cost,
+        used: 0,
+    };
+    put_seats(&offer, &lists, &mut edges, &mut index);
+    put_choices(sizes, &schedule, day, &mut edges);
+    let mut groups = Groups {
+        entries: buffers.entries,
+        ends: buffers.ends,
+        blocked: buffers.blocked,
+        entries_used: 0,
+        ends_used: 0,
+        blocked_used: 0,
+    };
+    put_groups(sizes, &schedule, day, &index, &lists, &mut groups);
+    let counts = Counts {
+        edges: edges.used,
+        entries: groups.entries_used,
+        groups: groups.ends_used,
+        blocked: groups.blocked_used,
+    };
+    FlowModel {
+        sizes,
+        lists,
+        index,
+        counts,
+    }
+}
+
+// Tests the input of a call and writes its model, within limits. `short`: another buffer that the call is
+// lent is too short.
+pub fn enter<'a>(
     limits: Limits,
     day: &[u8],
     state: &[u8],
-    limit: u32,
-    preferences: &[u32],
-    costs: &[i64],
-    lists: &[u8],
-    supplies: &mut [i32],
-    from: &mut [u16],
-    to: &mut [u16],
-    max: &mut [u32],
-    cost: &mut [i64],
-    entries: &mut [u16],
-    ends: &mut [u16],
-    blocked: &mut [u16],
-    index: &mut [u16; 2048],
+    input: &LentInput<'a>,
     short: bool,
-) -> Entered
-    requires { Within limits × (index.old ≡ replicate 2048 65535) }
-    ensures { EnteredLent limits day.now state.now (lent_input day.now state.now limit preferences.now costs.now lists.now) short
-        (buffers supplies.old from.old to.old max.old cost.old entries.old ends.old blocked.old)
-        (buffers supplies.new from.new to.new max.new cost.new entries.new ends.new blocked.new) index.new result }
+    buffers: &mut LentBuffers,
+) -> Result<FlowModel<'a>, Refusal>
+    requires { Within limits }
+    ensures { EnteredLent limits day.now state.now (call_input day.now state.now input.now) short buffers.old buffers.new result }
 {
-    let lengths = Lengths {
-        supplies: supplies.len(),
-        from: from.len(),
-        to: to.len(),
-        max: max.len(),
-        cost: cost.len(),
-        entries: entries.len(),
-        ends: ends.len(),
-        blocked: blocked.len(),
+    let day = Day::read(day)?;
+    let sums = check_input(limits, &day, state, input, buffers.lengths(), short)?;
+    let lens = sums.lens;
+    let lists = SlotLists {
+        bytes: input.lists,
+        stride: limits.choices,
+        lens,
     };
-    let number = number_with(
-        limits,
-        day,
-        state,
-        preferences,
-        costs,
-        lists,
-        lengths,
-        short,
-    );
-    if number != 0 {
-        let none = Counts {
-            lens: [0; 8],
-            seats: 0,
-            edges: 0,
-            entries: 0,
-            groups: 0,
-            blocked: 0,
-        };
-        return Entered {
-            number,
-            counts: none,
-        };
-    }
-    let counts = put_model(
-        limits,
-        input_data::day_of(day),
-        schedule_state::state_of(state),
-        limit,
-        preferences,
-        costs,
-        lists,
-        supplies,
-        from,
-        to,
-        max,
-        cost,
-        entries,
-        ends,
-        blocked,
-        index,
-    );
-    Entered { number: 0, counts }
+    let state = LentState::of(state).decoded();
+    Ok(put_model(limits, &day, &state, input, lists, buffers))
 }

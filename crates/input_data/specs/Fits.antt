@@ -70,8 +70,5 @@ module _ (choosers choices slots : ℕ) (c : Constraint) (fine : bad_operand cho
   pub left_chooser : OfChooserChoice c.kind → c.left < choosers
   left_chooser k = ltb-true _ _ (rw (cases c.kind k).0 at left_is)
 
-  pub right_choice : OfChooserChoice c.kind → case_of_target c.right ≡ 2
-  right_choice k = right_is_case ∙ (cases c.kind k).1
-
   pub right_below : OfChooserChoice c.kind → target_operand c.right < choices
   right_below k = ltb-true _ _ (rw (cases c.kind k).1 at right_is)

@@ -6,6 +6,8 @@ pub mod Checks
 pub mod Accepted
 pub mod Numbers
 pub mod Fits
+pub mod Read
+pub mod ReadLaws
 pub mod Bytes
 pub mod BytesLaws
 pub mod ByNumber

@@ -1,11 +1,13 @@
-// The day lent as bytes: reads at fixed places, each equal to a field of the InputData that they stand for.
-#![tactic(auto, unfolding(crate::specs::Bytes::day_of, crate::specs::Bytes::list_in, crate::specs::Bytes::word_at))]
+// Numbers and flags read where they lie in lent bytes.
+#![tactic(auto, unfolding(crate::specs::Bytes::word_at))]
 
-ghost use Rattle.std.specs.Prelude.{◌≡◌, ◌+◌, ◌<◌, ◌≤◌, length, get_or};
-ghost use Rattle.input_data.specs.Day.{min_at, max_at, optional_at};
-ghost use Rattle.input_data.specs.Bytes.{IsDay, word_at, signed_of, flag_at, numbers_in, day_of};
+ghost use Rattle.std.specs.Prelude.{◌≡◌, ◌+◌, ◌*◌, ◌<◌, ◌≤◌, length};
+ghost use Rattle.counting.specs.Fold.{table_to};
+ghost use Rattle.input_data.specs.Bytes.{word_at, signed_of, flag_at, numbers_in};
+ghost use Rattle.input_data.specs.BytesLaws.{word_from};
 
 use crate::ConstraintNumbers;
+use counting::table;
 
 // Four bytes, the least first.
 pub fn word(b: &[u8], at: usize) -> u32
@@ -24,99 +26,18 @@ pub fn flag(b: &[u8], at: usize) -> bool
 }
 
 // The signed number of 32 bits.
-pub fn signed(x: u32) -> i32
+fn signed(x: u32) -> i32
     ensures { result ≡ signed_of x }
 {
     x.cast_signed()
 }
 
-pub fn choosers(day: &[u8]) -> usize
-    requires { IsDay day.now }
-    ensures { result ≡ (day_of day.now).choosers }
+// The numbers that stand from `at` on.
+pub fn words<const N: usize>(b: &[u8], at: usize) -> [u32; N]
+    requires { at + 4 * N ≤ length b.now }
+    ensures { result ≡ table_to N (word_from b.now at) }
 {
-    word(day, 0) as usize
-}
-
-pub fn choices(day: &[u8]) -> usize
-    requires { IsDay day.now }
-    ensures { result ≡ (day_of day.now).choices }
-{
-    word(day, 4) as usize
-}
-
-pub fn slots(day: &[u8]) -> usize
-    requires { IsDay day.now }
-    ensures { result ≡ (day_of day.now).slots }
-{
-    word(day, 8) as usize
-}
-
-pub fn max_preference(day: &[u8]) -> u32
-    requires { IsDay day.now }
-    ensures { result ≡ (day_of day.now).max_preference }
-{
-    word(day, 12)
-}
-
-pub fn scheduling_count(day: &[u8]) -> usize
-    requires { IsDay day.now }
-    ensures { result ≡ (day_of day.now).scheduling.count }
-{
-    word(day, 16) as usize
-}
-
-pub fn assignment_count(day: &[u8]) -> usize
-    requires { IsDay day.now }
-    ensures { result ≡ (day_of day.now).assignment.count }
-{
-    word(day, 20) as usize
-}
-
-pub fn groups(day: &[u8]) -> usize
-    requires { IsDay day.now }
-    ensures { result ≡ (day_of day.now).groups }
-{
-    word(day, 24) as usize
-}
-
-#[tactic(auto, using(crate::specs::BytesLaws::min_of))]
-pub fn min_at(day: &[u8], k: usize) -> u32
-    requires { IsDay day.now × (k < 32) }
-    ensures { result ≡ min_at (day_of day.now) k }
-{
-    word(day, 28 + 4 * k)
-}
-
-#[tactic(auto, using(crate::specs::BytesLaws::max_of))]
-pub fn max_at(day: &[u8], k: usize) -> u32
-    requires { IsDay day.now × (k < 32) }
-    ensures { result ≡ max_at (day_of day.now) k }
-{
-    word(day, 156 + 4 * k)
-}
-
-#[tactic(auto, using(crate::specs::BytesLaws::optional_of))]
-pub fn optional_at(day: &[u8], k: usize) -> bool
-    requires { IsDay day.now × (k < 32) }
-    ensures { result ≡ optional_at (day_of day.now) k }
-{
-    flag(day, 284 + k)
-}
-
-#[tactic(auto, using(crate::specs::BytesLaws::length_of))]
-pub fn length_at(day: &[u8], g: usize) -> u32
-    requires { IsDay day.now × (g < 16) }
-    ensures { (result ≡ get_or (day_of day.now).lengths g 0) × (result < 4294967296) }
-{
-    word(day, 316 + 4 * g)
-}
-
-#[tactic(auto, using(crate::specs::BytesLaws::member_of_lem))]
-pub fn member_at(day: &[u8], i: usize) -> u32
-    requires { IsDay day.now × (i < 32) }
-    ensures { result ≡ get_or (day_of day.now).members i 0 }
-{
-    word(day, 380 + 4 * i)
+    table(0, |i| word(b, at + 4 * i))
 }
 
 // The numbers of a constraint of the list whose entries begin at `at`.

@@ -1,6 +1,6 @@
-// What a call tests beside the day, the first number that applies, and check 1.
+// What a call tests beside the day, and check 1.
 ghost use Rattle.std.specs.Prelude.{◌≡◌};
-ghost use Rattle.input_data.specs.Checks.{too_many, first_of};
+ghost use Rattle.input_data.specs.Checks.{too_many};
 
 use crate::Limits;
 
@@ -12,14 +12,6 @@ pub struct Beside {
     pub bad_levels: bool,
     pub bad_costs: bool,
     pub bad_asked: bool,
-}
-
-// The number of a check that applies, or else what is left to check.
-#[tactic(auto, unfolding(crate::specs::Checks::first_of))]
-pub fn first(applies: bool, number: u32, rest: u32) -> u32
-    ensures { result ≡ first_of applies number rest }
-{
-    if applies { number } else { rest }
 }
 
 // 1.

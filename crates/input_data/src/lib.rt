@@ -4,17 +4,15 @@
 mod bytes;
 mod checks;
 mod constraints;
-mod decode;
+mod day;
 
 ghost use Rattle.std.specs.Prelude.{◌≡◌};
 ghost use Rattle.input_data.specs.Lengths.{full_day};
 
-pub use bytes::{
-    assignment_count, choices, choosers, flag, groups, length_at, max_at, max_preference,
-    member_at, min_at, numbers_at, optional_at, scheduling_count, signed, slots, word,
-};
-pub use checks::{Beside, first, too_many};
-pub use decode::{assignment_of, day_of, maxs_of, mins_of};
+pub use bytes::{flag, word};
+pub use checks::{Beside, too_many};
+pub use constraints::Constraints;
+pub use day::Day;
 
 // How many choosers, choices and slots there may be. Strides and named lengths follow from these.
 #[derive(Clone, Copy)]

@@ -1,5 +1,5 @@
 -- The edges of the flow model: SPEC 6.4 to 6.7. Definitions only.
-use Rattle.std.specs.Prelude.{ℕ, ◌+◌, ◌-◌, ◌*◌, ◌≤◌, Bool, false, not, ◌&&◌, List, [], ◌∷◌, ◌++◌, map, eqb, leb, ℤ, pos, get_or}
+use Rattle.std.specs.Prelude.{ℕ, ◌+◌, ◌-◌, ◌*◌, ◌≤◌, ◌<◌, ◌≡◌, Bool, false, not, ◌&&◌, List, [], ◌∷◌, ◌++◌, map, eqb, leb, ℤ, pos, length, get_or}
 use Rattle.counting.specs.Fold.{only_if, join_to}
 use Rattle.scheduling.specs.Schedule.{entry_at}
 use Rattle.blocks.specs.Blocks.{cell}
@@ -107,3 +107,11 @@ pub record SmallSizes (z : Sizes) : Type 0 where
   pub choosers : z.choosers ≤ 64
   pub choices : z.choices ≤ 32
   pub slots : z.slots ≤ 8
+
+-- tables of their lengths
+pub record Offered (o : Offer) : Type 0 where
+  pub choosers : o.sizes.choosers ≤ 64
+  pub choices : o.sizes.choices ≤ 32
+  pub slots : o.sizes.slots ≤ 8
+  pub preferences : length o.preferences ≡ o.sizes.choosers * o.sizes.choices
+  pub priced : (i : ℕ) → i < length o.preferences → get_or o.preferences i 0 < length o.costs

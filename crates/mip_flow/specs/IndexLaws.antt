@@ -1,14 +1,19 @@
 -- The table of edge numbers, as the code fills it. Assumes nothing.
-use Rattle.std.specs.Prelude.{ℕ, suc, ◌+◌, ◌<◌, ◌≡◌, refl, cond, List, [], ◌∷◌, ◌++◌, eqb, length, get_or, set, replicate}
+use Rattle.std.specs.Prelude.{ℕ, suc, ◌+◌, ◌<◌, ◌≡◌, refl, false, cond, List, [], ◌∷◌, ◌++◌, eqb, ltb, Option, Some, None, length, get_or, set, replicate}
 use Rattle.std.proofs.Common.{sym, ap, ◌∙◌, add-zero, arith, length-set, get_or-set_same, get_or-set_other}
 use Rattle.std.proofs.lemmas.List.{length-replicate, get_or-replicate}
-use Rattle.counting.specs.Tests.{eq_cases}
+use Rattle.std.specs.Option.{is_some}
+use Rattle.counting.specs.Tests.{bool_cases, eq_cases}
 use Rattle.blocks.specs.Blocks.{cell}
-use Rattle.mip_flow.specs.Index.{no_edge, number_from}
+use Rattle.mip_flow.specs.Index.{EdgeNumbers, no_edge, number_from}
 
 -- the same, read from a table of numbers that is laid out by cells
 abbrev pub number_at : List ℕ → ℕ → ℕ → ℕ
 number_at index c k = get_or index (cell c k) 0
+
+-- the edge of chooser c to choice k, if there is one
+abbrev pub edge_in : EdgeNumbers → ℕ → ℕ → Option ℕ
+edge_in i c k = cond (ltb (number_at i.numbers c k) i.count) (Some (number_at i.numbers c k)) None
 
 -- a table of numbers in which these cells are numbered from n on
 unfoldable pub indexed : List ℕ → ℕ → List ℕ → List ℕ
@@ -16,6 +21,14 @@ indexed d n [] = d
 indexed d n (p ∷ ps) = indexed (set d p n) (suc n) ps
 
 -- ---- laws
+
+module _ (i : EdgeNumbers) (c k : ℕ) where
+  -- an edge is there if its number is below the count
+  pub is_there : is_some (edge_in i c k) ≡ ltb (number_at i.numbers c k) i.count
+  is_there = bool_cases (ltb (number_at i.numbers c k) i.count) (λ e. rw e) (λ e. rw e)
+
+  pub not_there : edge_in i c k ≡ None → ltb (number_at i.numbers c k) i.count ≡ false
+  not_there e = sym is_there ∙ ap is_some e
 
 pub indexed_append : (d : List ℕ) (n : ℕ) (ps qs : List ℕ) → indexed d n (ps ++ qs) ≡ indexed (indexed d n ps) (n + length ps) qs
 unfolding indexed

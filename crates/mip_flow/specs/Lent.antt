@@ -1,38 +1,25 @@
--- What storing edges asks of what it is lent, and what it leaves in the lent tables. Definitions only.
-use Rattle.std.specs.Prelude.{ℕ, Bool, List, ℤ}
-use Rattle.std.specs.Borrow.{Bor, MutBor}
+-- What storing edges leaves in the lent buffers. Definitions only.
+use Rattle.std.specs.Prelude.{ℕ, List}
+use Rattle.std.specs.Borrow.{MutBor}
 use denote.Triple.Both.{Both}
 use Rattle.counting.specs.Lent.{old, new}
-use Rattle.counting.specs.WrittenLaws.{Put}
-use Rattle.input_data.specs.declared.Sizes.{Sizes}
-use Rattle.mip_flow.specs.Edges.{Offer, offer, Seat}
-use Rattle.mip_flow.specs.Stored.{Choices, with_index, tables, storing_seats, storing_choices, Offered, Room}
+use Rattle.model_buffers.specs.Appending.{Appends}
+use Rattle.model_buffers.specs.declared.edges.Edges.{Edges}
+use Rattle.mip_flow.specs.Edges.{Offer, Seat}
+use Rattle.mip_flow.specs.Index.{EdgeNumbers}
+use Rattle.mip_flow.specs.Stored.{Choices, with_index, appending_seats, appending_choices}
 
--- a slice that a call is lent, before and after it: one that it reads, and one that it writes
-abbrev pub Slice : Type 0 → Type 0
-Slice A = Both (Bor (List A)) (Bor (List A))
+-- buffers and numbers that a call is lent, before and after it
+abbrev pub LentEdges : Type 0
+LentEdges = Both (MutBor Edges) (MutBor Edges)
 
-abbrev pub MutSlice : Type 0 → Type 0
-MutSlice A = Both (MutBor (List A)) (MutBor (List A))
+abbrev pub LentIndex : Type 0
+LentIndex = Both (MutBor EdgeNumbers) (MutBor EdgeNumbers)
 
--- what is offered, as a call is lent it
-abbrev pub lent_offer : Sizes → ℕ → Slice ℕ → Slice Bool → Slice ℤ → Offer
-lent_offer z limit preferences blocks costs = offer z limit preferences.entry.now blocks.entry.now costs.entry.now
-
--- tables of their lengths
-abbrev pub OfferLent : Sizes → ℕ → Bor (List ℕ) → Bor (List Bool) → Bor (List ℤ) → Type 0
-OfferLent z limit preferences blocks costs = Offered (offer z limit preferences.now blocks.now costs.now)
-
--- room for m edges after the first n
-abbrev pub HasRoom : MutBor (List ℕ) → MutBor (List ℕ) → MutBor (List ℕ) → MutBor (List ℤ) → ℕ → ℕ → Type 0
-HasRoom from to max cost n m = Room (tables from.now to.now max.now cost.now) n m
-
--- the edges of these seats were stored from number n on, their numbers in the index; r edges are there now
-abbrev pub StoresSeats : Offer → ℕ → List Seat → MutSlice ℕ → MutSlice ℕ → MutSlice ℕ → MutSlice ℤ → MutSlice ℕ → ℕ → Type 0
-StoresSeats o n qs from to max cost index r =
-    Put (storing_seats o) (with_index (old from) (old to) (old max) (old cost) (old index)) n qs (with_index (new from) (new to) (new max) (new cost) (new index)) r
+-- the edges of these seats were stored after those that were there, and numbered
+abbrev pub StoresSeats : Offer → List Seat → LentEdges → LentIndex → Type 0
+StoresSeats o qs edges index = Appends (appending_seats o) (with_index (old edges) (old index)) qs (with_index (new edges) (new index))
 
 -- the same of the edges of these choices
-abbrev pub StoresChoices : Choices → ℕ → List ℕ → MutSlice ℕ → MutSlice ℕ → MutSlice ℕ → MutSlice ℤ → ℕ → Type 0
-StoresChoices y n ks from to max cost r =
-    Put (storing_choices y) (tables (old from) (old to) (old max) (old cost)) n ks (tables (new from) (new to) (new max) (new cost)) r
+abbrev pub StoresChoices : Choices → List ℕ → LentEdges → Type 0
+StoresChoices y ks edges = Appends (appending_choices y) (old edges) ks (new edges)

@@ -7,7 +7,7 @@ ghost use Rattle.counting.specs.Fold.{table_to};
 ghost use Rattle.counting.specs.Written.{written};
 ghost use Rattle.mip_flow_static_data.specs.Nodes.{supplies, Supplying};
 
-use input_data::Sizes;
+use input_data::{Day, Sizes};
 
 // Stores f(0), f(1), .., f(n - 1) from place `at` on.
 fn put_each<T: Copy, F: Fn(usize) -> T>(out: &mut [T], at: usize, n: usize, f: F)
@@ -21,15 +21,15 @@ fn put_each<T: Copy, F: Fn(usize) -> T>(out: &mut [T], at: usize, n: usize, f: F
 }
 
 // What each node supplies, node by node.
-pub fn put_supplies<'a>(
+pub fn put_supplies(
     sizes: Sizes,
-    entries: &'a [u8; 32],
-    mins: &'a [u32; 32],
+    schedule: &[u8; 32],
+    day: &Day,
     covered: &[u32; 8],
     out: &mut [i32],
 )
-    requires { Supplying sizes mins.now covered.now (length out.old) }
-    ensures { out.new ≡ written out.old 0 (supplies sizes entries.now mins.now covered.now) }
+    requires { Supplying sizes day.now.mins covered.now (length out.old) }
+    ensures { out.new ≡ written out.old 0 (supplies sizes schedule.now day.now.mins covered.now) }
 {
     let n = sizes.choosers * sizes.slots;
     let choosers = sizes.choosers as u32;
@@ -37,10 +37,10 @@ pub fn put_supplies<'a>(
     put_each(out, 0, n, |_| 1);
     // a scheduled choice takes in its min at least, another nothing
     put_each(out, n, sizes.choices, |k| {
-        if entries[k] == 0 {
+        if schedule[k] == 0 {
             0
         } else {
-            counting::minus(mins[k])
+            counting::minus(day.min(k))
         }
     });
     put_each(out, n + sizes.choices, sizes.slots, |s| {

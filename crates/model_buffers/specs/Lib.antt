@@ -1,4 +1,9 @@
--- The buffers of a model: their lengths, and how much of them is used.
+-- The buffers of a model: their lengths, what stands in them, and how much of them is used.
 pub mod Lengths
 pub mod Answers
+pub mod Answered
 pub mod Buffers
+pub mod Appending
+pub mod Stored
+pub mod StoredLaws
+pub mod Lent

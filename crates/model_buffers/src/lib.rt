@@ -2,12 +2,19 @@
 // the answer that says how much of them is used.
 #![tactic(auto)]
 
-ghost use Rattle.std.specs.Prelude.{◌≡◌, not, ◌||◌, ◌+◌, eqb};
-ghost use Rattle.input_data.specs.Lengths.{Within};
-ghost use Rattle.model_buffers.specs.Answers.{model_refused, counted_answer};
+mod answer;
+mod buffers;
+mod edges;
+mod groups;
+
+ghost use Rattle.std.specs.Prelude.{◌≡◌, ◌<◌, ◌^◌, not, ◌||◌, eqb, length};
+ghost use Rattle.input_data.specs.Lengths.{Within, preferences_length, costs_length};
 ghost use Rattle.model_buffers.specs.Lengths.{short_edges, short_groups, short_buffers, short_values};
 
-use input_data::Limits;
+pub use buffers::LentBuffers;
+pub use edges::Edges;
+pub use groups::{Groups, Part};
+use input_data::{Day, Limits};
 
 // How long the eight lent buffers of a model are.
 #[derive(Clone, Copy)]
@@ -22,12 +29,19 @@ pub struct Lengths {
     pub blocked: usize,
 }
 
-// How long the slots' lists are, and how much of the buffers a model uses. The first `seats` edges are
-// those of seats.
+// What a call that builds a model is lent beside the day and the state: the preference limit, the
+// preferences and their costs, and the slots' lists.
+#[derive(Clone, Copy)]
+pub struct LentInput<'a> {
+    pub limit: u32,
+    pub preferences: &'a [u32],
+    pub costs: &'a [i64],
+    pub lists: &'a [u8],
+}
+
+// How much of the buffers a model uses.
 #[derive(Clone, Copy)]
 pub struct Counts {
-    pub lens: [u32; 8],
-    pub seats: usize,
     pub edges: usize,
     pub entries: usize,
     pub groups: usize,
@@ -78,34 +92,10 @@ pub fn short_values(limits: Limits, values: usize, plan: usize) -> bool
 }
 
 // 2. The preferences or the costs have not exactly their length.
-pub fn wrong_tables(cells: usize, most: u32, preferences: usize, costs: usize) -> bool
-    ensures { result ≡ (not (eqb preferences cells) || not (eqb costs (most + 1))) }
+pub fn wrong_tables(day: &Day, input: &LentInput) -> bool
+    requires { preferences_length day.now < 2 ^ 64 }
+    ensures { result ≡ (not (eqb (length input.now.preferences.now) (preferences_length day.now)) || not (eqb (length input.now.costs.now) (costs_length day.now))) }
 {
-    (preferences != cells) | (costs != most as usize + 1)
-}
-
-// A refused call: the number, and zeros.
-pub fn refuse(number: u32) -> ModelAnswer
-    ensures { result ≡ model_refused number }
-{
-    ModelAnswer {
-        number: number,
-        edges: 0,
-        entries: 0,
-        groups: 0,
-        blocked: 0,
-    }
-}
-
-// An accepted call: how much is used.
-pub fn accept(counts: Counts) -> ModelAnswer
-    ensures { result ≡ counted_answer counts }
-{
-    ModelAnswer {
-        number: 0,
-        edges: counts.edges,
-        entries: counts.entries,
-        groups: counts.groups,
-        blocked: counts.blocked,
-    }
+    (input.preferences.len() != day.choosers() * day.choices())
+        | (input.costs.len() != day.max_preference() as usize + 1)
 }

@@ -1,12 +1,22 @@
-// scoring.rs, Scoring::evaluate of a plan that was accepted: the score, and what the call tests of its tables.
+// scoring.rs, Scoring::evaluate of a plan that was accepted: the score.
 #![tactic(auto)]
 
-ghost use Rattle.std.specs.Prelude.{◌≡◌, not, ◌&&◌, ◌||◌, ◌+◌, ◌≤◌, eqb, length};
-ghost use Rattle.input_data.specs.Bytes.{IsDay, day_of};
+ghost use Rattle.std.specs.Prelude.{◌≡◌, ◌≤◌, length};
+ghost use Rattle.feasibility.specs.Laws.{Judged};
 ghost use Rattle.plan_score.specs.Evaluate.{major_of, score_of, finite_or_infinite, evaluated};
-ghost use Rattle.plan_score.specs.Laws.{Weighed, Evaluable};
+ghost use Rattle.plan_score.specs.Laws.{Weighed};
 
+use input_data::Day;
 use score::Score;
+use seat_counts::SeatPreferences;
+
+// What a plan is scored by.
+#[derive(Clone, Copy)]
+pub struct Scoring<'a> {
+    pub greedy: bool,
+    pub preferences: &'a [u32],
+    pub powers: &'a [f32],
+}
 
 // The greatest preference used, or NaN when greedy.
 fn major_of(greedy: bool, most: u32) -> f32
@@ -26,54 +36,31 @@ fn finite_or_infinite(s: Score) -> Score
     if s.is_finite() { s } else { Score::infinite() }
 }
 
-// The score of a feasible plan.
-fn score_of(day: &[u8], greedy: bool, preferences: &[u32], powers: &[f32], plan: &[u8]) -> Score
-    requires { IsDay day.now × Weighed (day_of day.now) preferences.now (length powers.now) plan.now }
-    ensures { result ≡ finite_or_infinite (score_of (day_of day.now) greedy preferences.now powers.now plan.now) }
-{
-    let choosers = input_data::choosers(day);
-    let choices = input_data::choices(day);
-    let slots = input_data::slots(day);
-    let most = seat_counts::greatest_preference(choosers, choices, slots, preferences, plan);
-    let counts = seat_counts::count_preferences(choosers, choices, slots, preferences, plan);
-    let minor = seat_counts::minor(&counts, powers, input_data::max_preference(day) as usize);
-    finite_or_infinite(Score {
-        major: major_of(greedy, most),
-        minor,
-    })
-}
-
-// The score of a plan that was looked at: infinite twice where it is not feasible.
-#[tactic(auto, unfolding(crate::specs::Evaluate::evaluated))]
-pub fn evaluate_plan(
-    day: &[u8],
-    greedy: bool,
-    preferences: &[u32],
-    powers: &[f32],
-    entries: &[u8; 32],
-    plan: &[u8],
-) -> Score
-    requires { Evaluable day.now preferences.now (length powers.now) entries.now plan.now }
-    ensures { result ≡ evaluated (day_of day.now) greedy preferences.now powers.now entries.now plan.now }
-{
-    if feasibility::plan_holds(day, entries, plan) {
-        score_of(day, greedy, preferences, powers, plan)
-    } else {
-        Score::infinite()
+impl Scoring<'_> {
+    // The score of a feasible plan.
+    fn score_of(&self, day: &Day, plan: &[u8]) -> Score
+        requires { Weighed day.now self.now.preferences.now (length self.now.powers.now) plan.now }
+        ensures { result ≡ finite_or_infinite (score_of day.now self.now.greedy self.now.preferences.now self.now.powers.now plan.now) }
+    {
+        let seats = SeatPreferences::of(day, self.preferences, plan);
+        let counts = seats.counts();
+        let minor = seat_counts::minor(&counts, self.powers, day.max_preference() as usize);
+        finite_or_infinite(Score {
+            major: major_of(self.greedy, seats.greatest()),
+            minor,
+        })
     }
-}
 
-// 2. A table has not its length, or the plan, if there is one.
-pub fn wrong_tables(
-    cells: usize,
-    most: u32,
-    there: bool,
-    size: usize,
-    preferences: usize,
-    powers: usize,
-    plan: usize,
-) -> bool
-    ensures { result ≡ (not (eqb preferences cells) || not (eqb powers (most + 1)) || (there && not (eqb plan size))) }
-{
-    (preferences != cells) | (powers != most as usize + 1) | (there & (plan != size))
+    // The score of a plan that was looked at: infinite twice where it is not feasible.
+    #[tactic(auto, unfolding(crate::specs::Evaluate::evaluated))]
+    pub fn evaluate(&self, day: &Day, entries: &[u8; 32], plan: &[u8]) -> Score
+        requires { Judged day.now entries.now plan.now × Weighed day.now self.now.preferences.now (length self.now.powers.now) plan.now }
+        ensures { result ≡ evaluated day.now self.now.greedy self.now.preferences.now self.now.powers.now entries.now plan.now }
+    {
+        if feasibility::plan_holds(day, entries, plan) {
+            self.score_of(day, plan)
+        } else {
+            Score::infinite()
+        }
+    }
 }

@@ -1,16 +1,14 @@
 -- What input satisfies that a model is built from: the day, the state's lists, its covered counts and its blocks. Assumes nothing.
-use Rattle.std.specs.Prelude.{ℕ, ◌<◌, ◌≤◌, ◌≡◌, refl, Bool, true, false, ◌||◌, List, ltb, length, get_or}
+use Rattle.std.specs.Prelude.{ℕ, ◌<◌, ◌≤◌, ◌≡◌, refl, Bool, true, false, ◌||◌, ltb, length, get_or}
 use borrow.Author.Tests.{eqb-true, ltb-false, not-false}
 use Rattle.counting.specs.Tests.{or_split, none_each, never}
 use Rattle.input_data.specs.Lengths.{Within, lists_length}
 use Rattle.input_data.specs.declared.Limits.{Limits}
-use Rattle.input_data.specs.declared.checks.Beside.{Beside}
 use Rattle.scheduling.specs.Schedule.{entry_at}
 use Rattle.slot_lists.specs.HeldLaws.{Held, held}
 use Rattle.slot_lists.specs.Held.{misheld}
 use Rattle.blocks.specs.Blocks.{cell}
-use Rattle.schedule_state.specs.Bytes.{IsState}
-use Rattle.schedule_state.specs.Good.{Handed, Ready, kept_fits}
+use Rattle.schedule_state.specs.Good.{Ready, kept_fits}
 use Rattle.schedule_state.specs.Numbers.{StateAccepted, state_accepted}
 use Rattle.schedule_state.specs.State.{covered_at, blocked_at, unlike, miscounted, miscounted_in, miscounted_at, misblocked, misblocked_row, misblocked_at}
 use Rattle.model_buffers.specs.Lengths.{short_buffers}
@@ -38,13 +36,6 @@ lists_long size most tables buffers short e =
     let q : ((tables || ltb size most) ≡ false) × (buffers ≡ false) = or_split p.0 in
     let r : (tables ≡ false) × (ltb size most ≡ false) = or_split q.0 in
     ltb-false size most r.1
-
--- .. and so has a state that is lent as bytes; `wrong`: it has not
-pub handed_model : (l : Limits) (b : Beside) (st : List ℕ) (size : ℕ) (wrong tables buffers short : Bool) → Within l → (wrong ≡ false → IsState st)
-    → b.bad_lengths ≡ (wrong || (tables || ltb size (lists_length l) || buffers || short)) → Handed l b st size
-handed_model l b st size wrong tables buffers short w h e =
-    let parts : b.bad_lengths ≡ false → (wrong ≡ false) × ((tables || ltb size (lists_length l) || buffers || short) ≡ false) = λ f. or_split (rw e at f) in
-    record { within = w; state = λ f. h (parts f).0; room = λ f. lists_long size (lists_length l) tables buffers short (parts f).1 }
 
 -- the lists' length is one of the lengths that these calls test
 pub model_room : (l : Limits) (x : ModelInput) (lens : Lengths) (short : Bool) → (beside_model l x lens short).bad_lengths ≡ false → lists_length l ≤ length x.lists

@@ -1,28 +1,27 @@
 -- Laws of the steps: the start, the middle, what narrows a range; parts of lent bytes and their copies. Assumes nothing.
 use Rattle.std.specs.Prelude.{ℕ, ◌+◌, ◌-◌, ◌<◌, ◌≤◌, ◌≡◌, refl, Bool, true, false, ◌&&◌, List, ◌≢◌, leb, Some, None, length, take, drop}
-use Rattle.std.proofs.Common.{sym, ◌∙◌, arith, length-drop, ext_get_or, length-take-le, lt-ltb, le-ltb}
+use Rattle.std.proofs.Common.{sym, arith, length-drop, length-take-le, le-ltb}
 use Rattle.std.proofs.lemmas.Bool.{eqb-false}
 use Rattle.std.proofs.lemmas.List.Quantifiers.{position-Some}
 use Rattle.std.proofs.lemmas.List.Sums.{fails_before_first}
 use Rattle.std.specs.List.{position, position_or_len}
-use Rattle.counting.specs.Lists.{Padded}
-use Rattle.counting.specs.Search.{first_to}
-use Rattle.counting.specs.SearchLaws.{first_at, first_none, first_passes}
-use Rattle.counting.specs.Tests.{lt_cases, never, eq_cases}
+use Rattle.counting.specs.SearchLaws.{first_at, first_none}
+use Rattle.counting.specs.Tests.{lt_cases, never}
 use Rattle.assignment.specs.Calls.{seats}
 use Rattle.input_data.specs.declared.InputData.{InputData}
 use Rattle.scheduling.specs.Handed.{kept_of}
-use Rattle.scheduling.specs.Schedule.{entry_at}
-use Rattle.preference_search.specs.Search.{Told, reaches, start_of, middle, level_at, of_result, told, marked, learnt, ends_at, low_after, high_after, is_feasible}
+use Rattle.preference_search.specs.Search.{LimitSolveResult, Feasible, Infeasible, Incomplete, Told, reaches, start_of, middle, level_at, of_result, told, marked, learnt, ends_at, low_after, high_after, is_feasible}
 use Rattle.preference_search.specs.Steps.{over, next, known_by, asked_again, told_range}
 use Rattle.preference_search.specs.declared.CachedAssignment.{CachedAssignment}
 use Rattle.preference_search.specs.declared.Known.{Known}
-use Rattle.preference_search.specs.declared.LimitSolveResult.{LimitSolveResult}
-use Rattle.preference_search.specs.declared.LimitSolveResult.TheVariants.{Feasible, Infeasible, Incomplete}
 use Rattle.preference_search.specs.declared.Search.{Search}
 
 abbrev pub is_infeasible : LimitSolveResult → Bool
 is_infeasible r = of_result r false true false
+
+-- a told plan that is looked at has all seats
+pub record HasSeats (seats : ℕ) (t : Told) : Type 0 where
+  pub long : is_feasible t.result ≡ true → seats ≤ length t.plan
 
 -- a range that is not spent
 pub record Ranged (s : Search) (levels : List ℕ) : Type 0 where
@@ -32,31 +31,7 @@ pub record Ranged (s : Search) (levels : List ℕ) : Type 0 where
   pub to : s.high < length levels
   pub asks : s.asks ≤ 256
 
--- no level before i is at or above the bound
-pub record Below (levels : List ℕ) (bound i : ℕ) : Type 0 where
-  pub fails : (k : ℕ) → k < i → reaches levels bound k ≡ false
-
-pub below_none : (levels : List ℕ) (bound : ℕ) → Below levels bound 0
-below_none levels bound = record { fails = λ k h. absurd (omega arith) }
-
-pub below_more : {levels : List ℕ} {bound i : ℕ} → Below levels bound i → reaches levels bound i ≡ false → Below levels bound (i + 1)
-below_more {i = i} p e = record { fails = λ k h. eq_cases k i (λ q t. rw q e) (λ q t. p.fails k (omega arith)) }
-
--- the start is the first that is, or the last index
-pub start_found : (levels : List ℕ) (bound i : ℕ) → i < length levels - 1 → Below levels bound i → reaches levels bound i ≡ true → i ≡ start_of levels bound
-unfolding start_of
-start_found levels bound i h p e = let q = first_at (length levels) (reaches levels bound) i (omega arith) p.fails e in omega (arith, q)
-
-pub start_last : (levels : List ℕ) (bound : ℕ) → Below levels bound (length levels - 1) → length levels - 1 ≡ start_of levels bound
-unfolding start_of
-start_last levels bound p =
-    let n = length levels in
-    let f = first_to n (reaches levels bound) in
-    lt_cases f (n - 1)
-    (λ h t. never (sym (first_passes n (reaches levels bound) (omega arith)) ∙ p.fails f h))
-    (λ h t. omega arith)
-
--- .. as the library finds it
+-- the start, as the library finds it
 pub start_some : (levels : List ℕ) (bound i : ℕ) → position (leb bound) levels ≡ Some i → i ≡ start_of levels bound
 unfolding start_of
 start_some levels bound i e = let q = position-Some (leb bound) levels i 0 e in omega (arith, q.0, first_at (length levels) (reaches levels bound) i q.0 q.2 q.1)
@@ -125,9 +100,6 @@ module _ (d : InputData) (s : Search) (levels : List ℕ) (t : Told) {asks start
       let f : ends_at s.start (middle s.low s.high) t.result ≡ false = rw (p₂, p₅) at e in
       rw f (rw (p₁, p₂, p₃, p₄, p₆, p₇, p₈, p₅))
 
--- a part of lent bytes, and an array filled with bytes
+-- a part of lent bytes
 pub part_long : (at n : ℕ) (b : List ℕ) → at + n ≤ length b → length (take n (drop at b)) ≡ n
 part_long at n b h = length-take-le n (drop at b) (omega (arith, length-drop at b))
-
-pub copied : {n i : ℕ} {l : List ℕ} (b : List ℕ) → length b ≡ n → i ≡ n → Padded (entry_at b) n i l → l ≡ b
-copied {i = i} {l = l} b h e p = ext_get_or 0 l b (p.long ∙ sym h) (λ k g. p.at k ∙ rw (lt-ltb k i (omega (arith, p.long))))

@@ -2,4 +2,5 @@
 pub mod Search
 pub mod Steps
 pub mod Bytes
+pub mod Answered
 pub mod Laws

@@ -3,10 +3,14 @@ use Rattle.std.specs.Prelude.{ℕ, ◌+◌, ◌-◌, ◌/◌, min, Bool, true, f
 use Rattle.assignment.specs.Plan.{kept_plan}
 use Rattle.counting.specs.Search.{first_to}
 use Rattle.preference_search.specs.declared.Known.{Known}
-use Rattle.preference_search.specs.declared.LimitSolveResult.{LimitSolveResult}
-use Rattle.preference_search.specs.declared.LimitSolveResult.TheVariants.{Feasible, Infeasible, Incomplete}
 
--- an answer to an ask: LimitSolveResult, with the plan beside it, which is read where it is feasible
+-- what a solver answers to an ask
+pub data LimitSolveResult : Type 0 where
+  Feasible : LimitSolveResult
+  Infeasible : LimitSolveResult
+  Incomplete : LimitSolveResult
+
+-- such an answer with the plan beside it, which is read where it is feasible
 pub record Told : Type 0 where
   pub result : LimitSolveResult
   pub plan : List ℕ

@@ -2,27 +2,32 @@
 // leaves of its steps.
 #![tactic(auto)]
 
-mod bytes;
-mod memory;
+mod answers;
+mod lent;
 mod steps;
 
-pub use bytes::{cached_of, known_by, seats};
-pub use memory::is_remembered;
+pub use lent::{LentCached, LentSearch, seats};
 use scheduling::Scheduling;
-pub use steps::{
-    ends_at, found_at, high_after, is_feasible, is_infeasible, learn, learn_greedy, low_after,
-    middle_of, nothing_known, start_of,
-};
+pub use steps::start_of;
 
-// What a solver answers to an ask. The plan of a feasible one stands beside it.
+// What a solver answers to an ask; a feasible one has a plan.
 #[derive(Clone, Copy)]
-pub enum LimitSolveResult {
-    Feasible,
+pub enum Told<'a> {
+    Feasible(&'a [u8]),
     Infeasible,
     Incomplete,
 }
 
-// The best plan so far, the level at which it was found, and the optimal mark.
+// The indices of the levels that a search over levels may still ask for, and the one where it started.
+#[derive(Clone, Copy)]
+pub struct Range {
+    pub start: u32,
+    pub low: u32,
+    pub high: u32,
+}
+
+// The best plan so far, the level at which it was found, and the optimal mark. A lent search may hold any level and
+// any plan where none was found; they are handed back as they came.
 #[derive(Clone, Copy)]
 pub struct Known {
     pub found: bool,
@@ -60,7 +65,15 @@ pub struct Search {
     pub cached: CachedAssignment,
 }
 
-// The level that the search asks for, and its index; zeros where it does not ask.
+// A search, and the level that it asks for with its index; zeros where it does not ask.
+#[derive(Clone, Copy)]
+pub struct Asked {
+    pub level: u32,
+    pub index: u32,
+    pub search: Search,
+}
+
+// The same with the call's number, as C reads it.
 #[repr(C)]
 #[derive(Clone, Copy)]
 pub struct SearchAnswer {

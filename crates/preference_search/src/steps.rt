@@ -1,122 +1,109 @@
 // The parts of a step: where a search starts, what an answer teaches, what is left of the range.
 ghost use Rattle.std.specs.Prelude.{position, leb, true, ◌≡◌, ◌<◌, ◌≤◌, length};
-ghost use Rattle.preference_search.specs.Bytes.{IsSearch, search_in};
-ghost use Rattle.preference_search.specs.Laws.{is_infeasible};
-ghost use Rattle.preference_search.specs.Search.{ends_at, found_at, high_after, is_feasible, learnt, learnt_greedy, low_after, marked, middle, nothing, start_of, told};
+ghost use Rattle.preference_search.specs.Answered.{range_after, told_by};
+ghost use Rattle.preference_search.specs.Laws.{is_infeasible, HasSeats};
+ghost use Rattle.preference_search.specs.Search.{ends_at, found_at, is_feasible, learnt, learnt_greedy, marked, middle, nothing, start_of};
 ghost use Rattle.preference_search.specs.Steps.{known_by};
 
-use crate::bytes::known_by;
-use crate::{Known, LimitSolveResult};
-use input_data::flag;
+use crate::lent::LentSearch;
+use crate::{Known, Range, Told};
 
-pub fn is_feasible(res: LimitSolveResult) -> bool
-    ensures { result ≡ is_feasible res }
-{
-    match res {
-        LimitSolveResult::Feasible => true,
-        LimitSolveResult::Infeasible => false,
-        LimitSolveResult::Incomplete => false,
+impl Known {
+    // Nothing, with this optimal mark.
+    pub fn nothing(mark: bool) -> Known
+        ensures { result ≡ marked nothing mark }
+    {
+        Known {
+            found: false,
+            level: 0,
+            plan: [0u8; 512],
+            optimal: mark,
+        }
+    }
+
+    // A plan that was found at a level.
+    pub fn found_at(seats: usize, level: u32, plan: &[u8], mark: bool) -> Known
+        requires { seats ≤ length plan.now }
+        ensures { result ≡ found_at seats level plan.now mark }
+    {
+        Known {
+            found: true,
+            level,
+            plan: assignment::kept_plan(seats, plan),
+            optimal: mark,
+        }
+    }
+
+    // What a search knows once it is told the answer at a level.
+    pub fn learn(seats: usize, level: u32, search: &LentSearch, told: &Told) -> Known
+        requires { HasSeats seats (told_by told.now) }
+        ensures { result ≡ learnt seats level (known_by search.now) (told_by told.now) }
+    {
+        match told {
+            Told::Feasible(plan) => Known::found_at(seats, level, plan, search.optimal()),
+            Told::Infeasible => search.known(search.optimal()),
+            Told::Incomplete => search.known(false),
+        }
+    }
+
+    // The same of a greedy search.
+    pub fn learn_greedy(seats: usize, level: u32, told: &Told) -> Known
+        requires { HasSeats seats (told_by told.now) }
+        ensures { result ≡ learnt_greedy seats level (told_by told.now) }
+    {
+        match told {
+            Told::Feasible(plan) => Known::found_at(seats, level, plan, true),
+            Told::Infeasible | Told::Incomplete => Known::nothing(false),
+        }
     }
 }
 
-pub fn is_infeasible(res: LimitSolveResult) -> bool
-    ensures { result ≡ is_infeasible res }
-{
-    match res {
-        LimitSolveResult::Feasible => false,
-        LimitSolveResult::Infeasible => true,
-        LimitSolveResult::Incomplete => false,
+impl<'a> Told<'a> {
+    pub fn is_feasible(&self) -> bool
+        ensures { result ≡ is_feasible (told_by self.now).result }
+    {
+        matches!(self, Told::Feasible(_))
+    }
+
+    pub fn is_infeasible(&self) -> bool
+        ensures { result ≡ is_infeasible (told_by self.now).result }
+    {
+        matches!(self, Told::Infeasible)
     }
 }
 
-// Nothing is known, with this optimal mark.
-pub fn nothing_known(mark: bool) -> Known
-    ensures { result ≡ marked nothing mark }
-{
-    Known {
-        found: false,
-        level: 0,
-        plan: [0u8; 512],
-        optimal: mark,
+impl Range {
+    #[tactic(auto, unfolding(crate::specs::Search::middle))]
+    pub fn middle(self) -> u32
+        requires { self.low ≤ self.high }
+        ensures { result ≡ middle self.low self.high }
+    {
+        self.low + (self.high - self.low) / 2
     }
-}
 
-// A plan that was found at a level.
-pub fn found_at(seats: usize, level: u32, plan: &[u8], mark: bool) -> Known
-    requires { seats ≤ length plan.now }
-    ensures { result ≡ found_at seats level plan.now mark }
-{
-    Known {
-        found: true,
-        level,
-        plan: assignment::kept_plan(seats, plan),
-        optimal: mark,
+    // Whether the answer at m ends the search: feasible at the start.
+    pub fn ends_at(self, m: u32, told: &Told) -> bool
+        ensures { result ≡ ends_at self.start m (told_by told.now).result }
+    {
+        match told {
+            Told::Feasible(_) => m == self.start,
+            Told::Infeasible | Told::Incomplete => false,
+        }
     }
-}
 
-// What an answer at a level teaches a search.
-pub fn learn(seats: usize, level: u32, search: &[u8], res: LimitSolveResult, plan: &[u8]) -> Known
-    requires { IsSearch search.now × (is_feasible res ≡ true → seats ≤ length plan.now) }
-    ensures { result ≡ learnt seats level (known_by (search_in search.now)) (told res plan.now) }
-{
-    match res {
-        LimitSolveResult::Feasible => found_at(seats, level, plan, flag(search, 3)),
-        LimitSolveResult::Infeasible => known_by(search, flag(search, 3)),
-        LimitSolveResult::Incomplete => known_by(search, false),
+    // What the answer at m leaves of it.
+    pub fn after(self, m: u32, told: &Told) -> Range
+        requires { (m < 256) × (is_feasible (told_by told.now).result ≡ true → 0 < m) }
+        ensures { result ≡ range_after self m (told_by told.now).result }
+    {
+        match told {
+            Told::Feasible(_) => Range {
+                high: m - 1,
+                ..self
+            },
+            Told::Infeasible | Told::Incomplete => Range { low: m + 1, ..self },
+        }
     }
-}
-
-// What the answer to a greedy ask teaches.
-pub fn learn_greedy(seats: usize, level: u32, res: LimitSolveResult, plan: &[u8]) -> Known
-    requires { is_feasible res ≡ true → seats ≤ length plan.now }
-    ensures { result ≡ learnt_greedy seats level (told res plan.now) }
-{
-    match res {
-        LimitSolveResult::Feasible => found_at(seats, level, plan, true),
-        LimitSolveResult::Infeasible => nothing_known(false),
-        LimitSolveResult::Incomplete => nothing_known(false),
-    }
-}
-
-// Whether the answer ends the search: feasible at the start.
-pub fn ends_at(start: u32, m: u32, res: LimitSolveResult) -> bool
-    ensures { result ≡ ends_at start m res }
-{
-    match res {
-        LimitSolveResult::Feasible => m == start,
-        LimitSolveResult::Infeasible => false,
-        LimitSolveResult::Incomplete => false,
-    }
-}
-
-pub fn low_after(low: u32, m: u32, res: LimitSolveResult) -> u32
-    requires { m < 256 }
-    ensures { result ≡ low_after low m res }
-{
-    match res {
-        LimitSolveResult::Feasible => low,
-        LimitSolveResult::Infeasible => m + 1,
-        LimitSolveResult::Incomplete => m + 1,
-    }
-}
-
-pub fn high_after(high: u32, m: u32, res: LimitSolveResult) -> u32
-    requires { is_feasible res ≡ true → 0 < m }
-    ensures { result ≡ high_after high m res }
-{
-    match res {
-        LimitSolveResult::Feasible => m - 1,
-        LimitSolveResult::Infeasible => high,
-        LimitSolveResult::Incomplete => high,
-    }
-}
-
-#[tactic(auto, unfolding(crate::specs::Search::middle))]
-pub fn middle_of(low: u32, high: u32) -> u32
-    requires { low ≤ high }
-    ensures { result ≡ middle low high }
-{
-    low + (high - low) / 2
 }
 
 // The first level at or above the bound.

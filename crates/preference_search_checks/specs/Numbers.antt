@@ -1,39 +1,44 @@
 -- What accepted input satisfies, and the numbers as the code comes to them. Assumes nothing.
-use Rattle.std.specs.Prelude.{ℕ, ◌≤◌, ◌≡◌, Bool, true, false, not, ◌&&◌, ◌||◌, List, eqb, ltb, leb, length}
-use Rattle.std.proofs.Math.Path.{ap}
-use Rattle.std.proofs.Common.{◌∙◌, mul-le-mul, arith, eqb-true, ltb-false, leb-false}
+use Rattle.std.specs.Prelude.{ℕ, ◌≤◌, ◌≡◌, Bool, true, false, not, ◌&&◌, ◌||◌, List, eqb, ltb, leb, length, Ok}
+use Rattle.std.proofs.Common.{ap, ◌∙◌, mul-le-mul, arith, eqb-true, ltb-false, leb-false}
 use Rattle.std.proofs.lemmas.Bool.{not-false}
 use Rattle.counting.specs.Tests.{bool_cases, or_split}
-use Rattle.preference_search.specs.Laws.{Ranged}
 use Rattle.input_data.specs.Accepted.{accepted, past, first_zero}
-use Rattle.input_data.specs.Bytes.{not_long, IsDay, day_of, wider}
-use Rattle.input_data.specs.BytesLaws.{lent_number_lem, Lent, lent_zero}
+use Rattle.input_data.specs.Bytes.{not_long, day_of, wider}
+use Rattle.input_data.specs.BytesLaws.{lent_number_lem}
 use Rattle.input_data.specs.Checks.{first_of, day_number, has_bad_levels}
 use Rattle.input_data.specs.Lengths.{Within, plan_length}
+use Rattle.input_data.specs.Read.{day_read}
+use Rattle.input_data.specs.ReadLaws.{read_ok}
 use Rattle.input_data.specs.declared.Limits.{Limits}
 use Rattle.input_data.specs.declared.InputData.{InputData}
-use Rattle.scheduling.specs.declared.Scheduling.{Scheduling}
 use Rattle.scheduling.specs.Handed.{schedule_of, not_schedule, outside}
 use Rattle.assignment.specs.Calls.{seats}
 use Rattle.assignment.specs.Laws.{Small, small}
-use Rattle.preference_search.specs.Search.{Told, told, is_feasible}
 use Rattle.preference_search.specs.Bytes.{IsCached, IsSearch, not_cached, not_search, cached_in, search_in}
-use Rattle.preference_search_checks.specs.Checks.{beside_levels, wrong_length, outside_cached, begin_number, bad_range, spent_at, spent, bad_cached, bad_told, held_number, tell_number, begin_lent_number, tell_lent_number}
-use Rattle.preference_search.specs.declared.CachedAssignment.{CachedAssignment}
-use Rattle.preference_search.specs.declared.LimitSolveResult.{LimitSolveResult}
+use Rattle.preference_search.specs.Laws.{HasSeats, Ranged}
+use Rattle.preference_search.specs.Search.{Told, is_feasible}
 use Rattle.preference_search.specs.declared.Search.{Search}
+use Rattle.preference_search_checks.specs.Checks.{beside_levels, wrong_length, outside_cached, begin_number, bad_range, spent_at, spent, bad_cached, bad_told, held_number, tell_number, begin_read_number, tell_read_number, begin_lent_number, tell_lent_number}
 
 -- what begin works with
-pub record Beginning (d : InputData) (levels : List ℕ) : Type 0 where
+pub record Opening (d : InputData) (sch levels : List ℕ) : Type 0 where
   pub small : Small d
+  pub schedule : length sch ≡ 32
   pub few : length levels ≤ 256
 
--- a told plan that is looked at has all seats
-pub record Holding (d : InputData) (r : LimitSolveResult) (plan : List ℕ) : Type 0 where
+-- what tell works with
+pub record Holding (d : InputData) (t : Told) : Type 0 where
   pub small : Small d
-  pub long : is_feasible r ≡ true → seats d ≤ length plan
+  pub told : HasSeats (seats d) t
 
 -- ---- laws
+
+is_long : (n : ℕ) (b : List ℕ) → not_long n b ≡ false → length b ≡ n
+is_long n b e = eqb-true (length b) n (not-false _ e)
+
+wide : (d : InputData) (levels : List ℕ) (wrong : Bool) → beside_levels d levels wrong ≡ wider wrong (beside_levels d levels false)
+wide d levels wrong = bool_cases wrong (λ e. rw e) (λ e. rw e)
 
 levels_few : (m : ℕ) (levels : List ℕ) → has_bad_levels m levels ≡ false → length levels ≤ 256
 unfolding has_bad_levels
@@ -57,16 +62,6 @@ told_long l d levels t rest w e f =
     let m : seats d ≤ plan_length l = mul-le-mul a.choosers a.slots in
     omega (arith, n, m)
 
-day_holding : (l : Limits) (d : InputData) (levels : List ℕ) (r : LimitSolveResult) (plan : List ℕ) (rest : ℕ) → Within l → day_number l d (beside_levels d levels (wrong_length l (told r plan))) rest ≡ 0 → Holding d r plan
-day_holding l d levels r plan rest w e = record {
-  small = day_small l d levels (wrong_length l (told r plan)) rest w e;
-  long = told_long l d levels (told r plan) rest w e;
-}
-
-begin_accepted : (l : Limits) (d : InputData) (sch : Scheduling) (levels : List ℕ) (c : CachedAssignment) → Within l → begin_number l d sch levels c ≡ 0 → Beginning d levels
-unfolding begin_number
-begin_accepted l d sch levels c w e = record { small = day_small l d levels false _ w e; few = day_few l d levels false _ w e }
-
 -- a search that 18 does not refuse, and is not greedy
 range_of : (s : Search) (levels : List ℕ) → length levels ≤ 256 → spent s (length levels) ≡ false → s.greedy ≡ false → Ranged s levels
 unfolding spent_at
@@ -84,98 +79,85 @@ range_of s levels few e g =
       asks = ltb-false _ _ q.1;
     }
 
-record TellAccepted (d : InputData) (s : Search) (levels : List ℕ) (r : LimitSolveResult) (plan : List ℕ) : Type 0 where
-  holding : Holding d r plan
-  range : s.greedy ≡ false → Ranged s levels
+-- ---- begin
 
-tell_accepted : (l : Limits) (d : InputData) (s : Search) (levels : List ℕ) (r : LimitSolveResult) (plan : List ℕ) → Within l → tell_number l d s levels (told r plan) ≡ 0 → TellAccepted d s levels r plan
-unfolding tell_number held_number
-tell_accepted l d s levels r plan w e =
-    let t = told r plan in
-    let rest = held_number d s (length levels) t in
-    let p = (past l d (beside_levels d levels (wrong_length l t)) rest e).none in
-    let a = first_zero (outside d s.schedule || outside_cached d s.cached) 11 _ (omega arith) p in
-    let b = first_zero (bad_told d s t) 13 _ (omega arith) a.1 in
-    let c = first_zero (spent s (length levels)) 18 0 (omega arith) b.1 in
-    record {
-      holding = day_holding l d levels r plan rest w e;
-      range = range_of s levels (day_few l d levels (wrong_length l t) rest w e) c.0;
-    }
+module _ (l : Limits) (d : InputData) (sch levels c : List ℕ) where
+  abbrev opening : Bool
+  opening = not_schedule sch || not_cached c
 
--- ---- lent bytes
-
-is_long : (n : ℕ) (b : List ℕ) → not_long n b ≡ false → length b ≡ n
-is_long n b e = eqb-true (length b) n (not-false _ e)
-
--- what begin works with, as it is lent
-pub record Opening (day sch levels c : List ℕ) : Type 0 where
-  pub day_long : IsDay day
-  pub schedule : length sch ≡ 32
-  pub cached : IsCached c
-  pub beginning : Beginning (day_of day) levels
-
--- what tell works with, as it is lent
-pub record Telling (day s : List ℕ) (r : LimitSolveResult) (plan : List ℕ) : Type 0 where
-  pub day_long : IsDay day
-  pub search : IsSearch s
-  pub holding : Holding (day_of day) r plan
-
-wide : (d : InputData) (levels : List ℕ) (wrong : Bool) → beside_levels d levels wrong ≡ wider wrong (beside_levels d levels false)
-wide d levels wrong = bool_cases wrong (λ e. rw e) (λ e. rw e)
-
-module _ (l : Limits) (day sch levels c : List ℕ) where
-  abbrev d : InputData
-  d = day_of day
-
-  abbrev wrong : Bool
-  wrong = not_schedule sch || not_cached c
-
-  abbrev late : ℕ
-  late = first_of (outside d (schedule_of sch) || outside_cached d (cached_in c)) 11 (first_of (bad_cached d (cached_in c)) 13 0)
-
-  -- the number as the code comes to it
-  pub begin_number_lem : IsDay day → day_number l d (beside_levels d levels wrong) late ≡ begin_lent_number l day sch levels c
-  unfolding begin_number
-  begin_number_lem h = ap (λ b. day_number l d b late) (wide d levels wrong) ∙ lent_number_lem l day wrong (beside_levels d levels false) late h
-
-  begin_long : wrong ≡ false → (length sch ≡ 32) × IsCached c
+  begin_long : opening ≡ false → (length sch ≡ 32) × IsCached c
   begin_long e = let q : (not_schedule sch ≡ false) × (not_cached c ≡ false) = or_split e in (is_long 32 sch q.0, is_long 546 c q.1)
 
-  pub begin_passed : IsDay day → Within l → day_number l d (beside_levels d levels wrong) 0 ≡ 0 → Opening day sch levels c
-  begin_passed h w e =
-      let g = begin_long (past l d (beside_levels d levels wrong) 0 e).lengths in
-      record { day_long = h; schedule = g.0; cached = g.1; beginning = record { small = day_small l d levels wrong 0 w e; few = day_few l d levels wrong 0 w e } }
+  begun_with : (rest : ℕ) → Within l → day_number l d (beside_levels d levels opening) rest ≡ 0 → Opening d sch levels
+  begun_with rest w e = record {
+    small = day_small l d levels opening rest w e;
+    schedule = (begin_long (past l d (beside_levels d levels opening) rest e).lengths).0;
+    few = day_few l d levels opening rest w e;
+  }
 
-  pub begin_opening : Within l → begin_lent_number l day sch levels c ≡ 0 → Opening day sch levels c
-  begin_opening w e =
-      let z : Lent day wrong _ = lent_zero l day wrong _ e in
-      let g = begin_long z.right in
-      record { day_long = z.day; schedule = g.0; cached = g.1; beginning = begin_accepted l d (schedule_of sch) levels (cached_in c) w z.zero }
+  -- once the day has passed
+  pub begin_passed : Within l → day_number l d (beside_levels d levels opening) 0 ≡ 0 → Opening d sch levels
+  begin_passed w e = begun_with 0 w e
 
-module _ (l : Limits) (day s levels : List ℕ) (r : LimitSolveResult) (plan : List ℕ) where
-  abbrev t : Told
-  t = told r plan
+  pub begin_cached : day_number l d (beside_levels d levels opening) 0 ≡ 0 → IsCached c
+  begin_cached e = (begin_long (past l d (beside_levels d levels opening) 0 e).lengths).1
 
-  abbrev tell_wrong : Bool
-  tell_wrong = not_search s || wrong_length l t
+  -- once all has passed
+  pub begin_opening : Within l → begin_read_number l d sch levels c ≡ 0 → Opening d sch levels
+  unfolding begin_read_number
+  begin_opening w e = begun_with _ w e
 
-  pub tell_number_lem : IsDay day → day_number l (day_of day) (beside_levels (day_of day) levels tell_wrong) (held_number (day_of day) (search_in s) (length levels) t) ≡ tell_lent_number l day s levels t
-  unfolding tell_number
-  tell_number_lem h = lent_number_lem l day (not_search s) (beside_levels (day_of day) levels (wrong_length l t)) (held_number (day_of day) (search_in s) (length levels) t) h
+-- the number of the call that is lent the day
+pub begin_number_read : (l : Limits) (day sch levels c : List ℕ) {d : InputData} {n : ℕ} → Ok d ≡ day_read day → n ≡ begin_read_number l d sch levels c → n ≡ begin_lent_number l day sch levels c
+unfolding begin_read_number begin_number
+begin_number_read l day sch levels c e p =
+    let q = read_ok day e in
+    let d = day_of day in
+    let wrong = not_schedule sch || not_cached c in
+    let late = first_of (outside d (schedule_of sch) || outside_cached d (cached_in c)) 11 (first_of (bad_cached d (cached_in c)) 13 0) in
+    rw q.1 at p ∙ ap (λ b. day_number l d b late) (wide d levels wrong) ∙ lent_number_lem l day wrong (beside_levels d levels false) late q.0
 
-  pub tell_passed : IsDay day → Within l → day_number l (day_of day) (beside_levels (day_of day) levels tell_wrong) 0 ≡ 0 → Telling day s r plan
-  tell_passed h w e =
-      let q : (not_search s ≡ false) × (wrong_length l t ≡ false) = or_split (past l (day_of day) (beside_levels (day_of day) levels tell_wrong) 0 e).lengths in
-      let f : day_number l (day_of day) (beside_levels (day_of day) levels (wrong_length l t)) 0 ≡ 0 = rw q.0 at e in
-      record { day_long = h; search = is_long 1114 s q.0; holding = day_holding l (day_of day) levels r plan 0 w f }
+-- ---- tell
 
-  tell_lent_lem : tell_lent_number l day s levels t ≡ 0 → Lent day (not_search s) (tell_number l (day_of day) (search_in s) levels t)
-  tell_lent_lem e = lent_zero l day (not_search s) _ e
+module _ (l : Limits) (d : InputData) (s levels : List ℕ) (t : Told) where
+  abbrev telling : Bool
+  telling = not_search s || wrong_length l t
 
-  pub tell_telling : Within l → tell_lent_number l day s levels t ≡ 0 → Telling day s r plan
-  tell_telling w e =
-      let z = tell_lent_lem e in
-      record { day_long = z.day; search = is_long 1114 s z.right; holding = (tell_accepted l (day_of day) (search_in s) levels r plan w z.zero).holding }
+  told_right : (rest : ℕ) → day_number l d (beside_levels d levels telling) rest ≡ 0 → IsSearch s × (day_number l d (beside_levels d levels (wrong_length l t)) rest ≡ 0)
+  told_right rest e =
+      let q : (not_search s ≡ false) × (wrong_length l t ≡ false) = or_split (past l d (beside_levels d levels telling) rest e).lengths in
+      (is_long 1114 s q.0, rw q.0 at e)
 
-  pub tell_range : Within l → tell_lent_number l day s levels t ≡ 0 → (search_in s).greedy ≡ false → Ranged (search_in s) levels
-  tell_range w e = (tell_accepted l (day_of day) (search_in s) levels r plan w (tell_lent_lem e).zero).range
+  told_with : (rest : ℕ) → Within l → day_number l d (beside_levels d levels telling) rest ≡ 0 → Holding d t
+  told_with rest w e =
+      let f = (told_right rest e).1 in
+      record { small = day_small l d levels (wrong_length l t) rest w f; told = record { long = told_long l d levels t rest w f } }
+
+  -- once the day has passed
+  pub tell_passed : Within l → day_number l d (beside_levels d levels telling) 0 ≡ 0 → Holding d t
+  tell_passed w e = told_with 0 w e
+
+  pub tell_search : day_number l d (beside_levels d levels telling) 0 ≡ 0 → IsSearch s
+  tell_search e = (told_right 0 e).0
+
+  -- once all has passed
+  pub tell_holding : Within l → tell_read_number l d s levels t ≡ 0 → Holding d t
+  unfolding tell_read_number
+  tell_holding w e = told_with _ w e
+
+  pub tell_range : Within l → tell_read_number l d s levels t ≡ 0 → (search_in s).greedy ≡ false → Ranged (search_in s) levels
+  unfolding tell_read_number held_number
+  tell_range w e g =
+      let h = search_in s in
+      let p = (past l d (beside_levels d levels telling) _ e).none in
+      let a = first_zero (outside d h.schedule || outside_cached d h.cached) 11 _ (omega arith) p in
+      let b = first_zero (bad_told d h t) 13 _ (omega arith) a.1 in
+      let c = first_zero (spent h (length levels)) 18 0 (omega arith) b.1 in
+      range_of h levels (day_few l d levels telling _ w e) c.0 g
+
+pub tell_number_read : (l : Limits) (day s levels : List ℕ) (t : Told) {d : InputData} {n : ℕ} → Ok d ≡ day_read day → n ≡ tell_read_number l d s levels t → n ≡ tell_lent_number l day s levels t
+unfolding tell_read_number tell_number
+tell_number_read l day s levels t e p =
+    let q = read_ok day e in
+    let d = day_of day in
+    rw q.1 at p ∙ lent_number_lem l day (not_search s) (beside_levels d levels (wrong_length l t)) (held_number d (search_in s) (length levels) t) q.0

@@ -1,142 +1,159 @@
-// The numbers of begin and tell.
+// The checks of begin and tell.
 #![tactic(auto)]
 
-ghost use Rattle.std.specs.Prelude.{◌≡◌};
-ghost use Rattle.input_data.specs.Bytes.{IsDay, day_of};
+ghost use Rattle.std.specs.Prelude.{◌≡◌, ◌&&◌, length, IfOk};
+ghost use Rattle.refusal.specs.Number.{outcome};
 ghost use Rattle.input_data.specs.Lengths.{Within};
+ghost use Rattle.assignment.specs.Calls.{seats};
 ghost use Rattle.assignment.specs.Laws.{Small};
-ghost use Rattle.preference_search.specs.Bytes.{IsCached, IsSearch, cached_in, search_in};
-ghost use Rattle.preference_search.specs.Search.{told};
-ghost use Rattle.preference_search_checks.specs.Checks.{bad_cached, bad_plans, begin_lent_number, beside_levels, held_number, outside_cached, spent, tell_lent_number};
-ghost use Rattle.preference_search_checks.specs.Numbers.{Telling};
+ghost use Rattle.assignment.specs.Plan.{bad_plan_for};
+ghost use Rattle.preference_search.specs.Answered.{told_by};
+ghost use Rattle.preference_search.specs.Bytes.{cached_in, search_in};
+ghost use Rattle.preference_search.specs.Laws.{HasSeats};
+ghost use Rattle.preference_search.specs.Search.{is_feasible};
+ghost use Rattle.preference_search_checks.specs.Checks.{bad_cached, bad_if, bad_plans, begin_read_number, beside_levels, held_number, outside_cached, spent, tell_read_number, wrong_length};
+ghost use Rattle.preference_search_checks.specs.Numbers.{Holding};
 
-use input_data::{Beside, Limits, flag, word};
-use preference_search::{LimitSolveResult, is_feasible, seats};
+use assignment::bad_plan_for;
+use day_checks::check_day;
+use input_data::{Beside, Day, Limits};
+use preference_search::{LentCached, LentSearch, Told, seats};
+use refusal::Refusal;
+use scheduling::bad_slots;
 
 // 11 of what is remembered, if anything is.
-fn outside_cached(day: &[u8], cached: &[u8]) -> bool
-    requires { IsDay day.now × IsCached cached.now }
-    ensures { result ≡ outside_cached (day_of day.now) (cached_in cached.now) }
+fn outside_cached(day: &Day, cached: &LentCached) -> bool
+    ensures { result ≡ outside_cached day.now cached.now }
 {
-    let outside = scheduling::bad_slots(
-        input_data::choices(day),
-        input_data::slots(day),
-        &cached[2..34],
-    );
-    flag(cached, 0) & outside
+    cached.is_there() & bad_slots(day.choices(), day.slots(), cached.schedule())
 }
 
 // 13 of what is remembered, if anything is.
-fn bad_cached(day: &[u8], cached: &[u8]) -> bool
-    requires { IsDay day.now × Small (day_of day.now) × IsCached cached.now }
-    ensures { result ≡ bad_cached (day_of day.now) (cached_in cached.now) }
+fn bad_cached(day: &Day, cached: &LentCached) -> bool
+    requires { Small day.now }
+    ensures { result ≡ bad_cached day.now cached.now }
 {
-    let choices = input_data::choices(day);
-    let there = flag(cached, 0);
-    assignment::bad_if(there, choices, seats(day), &cached[2..34], &cached[34..546])
+    cached.is_there() && bad_plan_for(day.choices(), seats(day), cached.schedule(), cached.plan())
 }
 
-fn beside(day: &[u8], levels: &[u32], wrong: bool) -> Beside
-    requires { IsDay day.now }
-    ensures { result ≡ beside_levels (day_of day.now) levels.now wrong }
+fn beside(day: &Day, levels: &[u32], wrong: bool) -> Beside
+    ensures { result ≡ beside_levels day.now levels.now wrong }
 {
     Beside {
         bad_lengths: wrong,
         bad_preferences: false,
-        bad_levels: day_checks::bad_levels(input_data::max_preference(day), levels),
+        bad_levels: day_checks::bad_levels(day.max_preference(), levels),
         bad_costs: false,
         bad_asked: false,
     }
 }
 
-#[tactic(auto, using(input_data::specs::Numbers::number_refused, input_data::specs::Numbers::number_else, crate::specs::Numbers::begin_number_lem, crate::specs::Numbers::begin_passed))]
-pub fn begin_number(
+// What is remembered is handed on as it is read.
+#[tactic(auto, using(input_data::specs::ReadLaws::day_refused, input_data::specs::ReadLaws::day_passed, crate::specs::Numbers::begin_passed, crate::specs::Numbers::begin_cached), unfolding(crate::specs::Checks::begin_read_number, input_data::specs::Checks::first_of))]
+pub fn check_begin<'a>(
     limits: Limits,
-    day: &[u8],
+    day: &Day,
     schedule: &[u8],
     levels: &[u32],
-    cached: &[u8],
-) -> u32
-    requires { Within limits × IsDay day.now }
-    ensures { result ≡ begin_lent_number limits day.now schedule.now levels.now cached.now }
+    cached: &'a [u8],
+) -> Result<LentCached<'a>, Refusal>
+    requires { Within limits }
+    ensures number { outcome result ≡ begin_read_number limits day.now schedule.now levels.now cached.now }
+    ensures read { IfOk result (λ c. c ≡ cached_in cached.now) }
 {
     let wrong = (schedule.len() != 32) | (cached.len() != 546);
-    let number = day_checks::day_number(limits, day, beside(day, levels, wrong), 0);
-    if number != 0 {
-        return number;
+    check_day(limits, day, beside(day, levels, wrong))?;
+    let cached = LentCached::lent(cached);
+    let outside = bad_slots(day.choices(), day.slots(), schedule);
+    if outside | outside_cached(day, &cached) {
+        return Err(Refusal::Schedule);
     }
-    let choices = input_data::choices(day);
-    let outside = scheduling::bad_slots(choices, input_data::slots(day), schedule)
-        | outside_cached(day, cached);
-    input_data::first(
-        outside,
-        11,
-        input_data::first(bad_cached(day, cached), 13, 0),
-    )
+    if bad_cached(day, &cached) {
+        return Err(Refusal::Plan);
+    }
+    Ok(cached)
 }
 
 // 18. `count` is the count of levels.
 #[tactic(auto, unfolding(crate::specs::Checks::spent_at))]
-fn is_spent(search: &[u8], count: usize) -> bool
-    requires { IsSearch search.now }
-    ensures { result ≡ spent (search_in search.now) count }
+fn is_spent(search: &LentSearch, count: usize) -> bool
+    ensures { result ≡ spent search.now count }
 {
-    let low = word(search, 16);
-    let high = word(search, 20);
-    let range = (low < word(search, 12)) | (high < low) | (count <= high as usize);
-    !flag(search, 0) | (256 < word(search, 4)) | (!flag(search, 1) & range)
+    let range = search.range();
+    let bad_range = (range.low < range.start)
+        | (range.high < range.low)
+        | (count <= range.high as usize);
+    !search.asking() | (256 < search.asks()) | (!search.greedy() & bad_range)
+}
+
+// 13 of a told plan, which is looked at where the result is feasible.
+fn bad_told(day: &Day, search: &LentSearch, told: &Told) -> bool
+    requires { Holding day.now (told_by told.now) }
+    ensures { result ≡ bad_if day.now (is_feasible (told_by told.now).result) search.now.schedule (told_by told.now).plan }
+{
+    match told {
+        Told::Feasible(plan) => bad_plan_for(day.choices(), seats(day), search.schedule(), plan),
+        Told::Infeasible | Told::Incomplete => false,
+    }
 }
 
 // 13 of the told plan and of the best so far.
-fn bad_plans(day: &[u8], search: &[u8], res: LimitSolveResult, plan: &[u8]) -> bool
-    requires { Telling day.now search.now res plan.now }
-    ensures { result ≡ bad_plans (day_of day.now) (search_in search.now) (told res plan.now) }
+fn bad_plans(day: &Day, search: &LentSearch, told: &Told) -> bool
+    requires { Holding day.now (told_by told.now) }
+    ensures { result ≡ bad_plans day.now search.now (told_by told.now) }
 {
-    let choices = input_data::choices(day);
-    let seats = seats(day);
-    assignment::bad_if(is_feasible(res), choices, seats, &search[24..56], plan)
-        | assignment::bad_if(
-            flag(search, 2),
-            choices,
-            seats,
-            &search[24..56],
-            &search[56..568],
-        )
+    bad_told(day, search, told)
+        | (search.found()
+            && bad_plan_for(day.choices(), seats(day), search.schedule(), search.plan()))
 }
 
 // 11, 13 and 18 of what a search holds and is told.
-#[tactic(auto, unfolding(crate::specs::Checks::held_number))]
-fn held_number(day: &[u8], search: &[u8], count: usize, res: LimitSolveResult, plan: &[u8]) -> u32
-    requires { Telling day.now search.now res plan.now }
-    ensures { result ≡ held_number (day_of day.now) (search_in search.now) count (told res plan.now) }
+#[tactic(auto, unfolding(crate::specs::Checks::held_number, input_data::specs::Checks::first_of))]
+fn check_held(day: &Day, search: &LentSearch, count: usize, told: &Told) -> Result<(), Refusal>
+    requires { Holding day.now (told_by told.now) }
+    ensures { outcome result ≡ held_number day.now search.now count (told_by told.now) }
 {
-    let choices = input_data::choices(day);
-    let outside = scheduling::bad_slots(choices, input_data::slots(day), &search[24..56])
-        | outside_cached(day, &search[568..1114]);
-    let bad = bad_plans(day, search, res, plan) | bad_cached(day, &search[568..1114]);
-    let from13 = input_data::first(bad, 13, input_data::first(is_spent(search, count), 18, 0));
-    input_data::first(outside, 11, from13)
+    let cached = search.cached();
+    let outside = bad_slots(day.choices(), day.slots(), search.schedule());
+    if outside | outside_cached(day, &cached) {
+        return Err(Refusal::Schedule);
+    }
+    if bad_plans(day, search, told) | bad_cached(day, &cached) {
+        return Err(Refusal::Plan);
+    }
+    if is_spent(search, count) {
+        return Err(Refusal::Search);
+    }
+    Ok(())
 }
 
-#[tactic(auto, using(input_data::specs::Numbers::number_refused, input_data::specs::Numbers::number_else, crate::specs::Numbers::tell_number_lem, crate::specs::Numbers::tell_passed))]
-pub fn tell_number(
-    limits: Limits,
-    day: &[u8],
-    search: &[u8],
-    levels: &[u32],
-    res: LimitSolveResult,
-    plan: &[u8],
-) -> u32
-    requires { Within limits × IsDay day.now }
-    ensures { result ≡ tell_lent_number limits day.now search.now levels.now (told res plan.now) }
+// 2 of a told plan, which is looked at where the result is feasible.
+fn wrong_length(limits: Limits, told: &Told) -> bool
+    requires { Within limits }
+    ensures { result ≡ wrong_length limits (told_by told.now) }
 {
-    let size = limits.choosers * limits.slots;
-    // 2 of a told plan, which is looked at where the result is feasible.
-    let wrong = is_feasible(res) & (plan.len() != size);
-    let lengths = (search.len() != 1114) | wrong;
-    let number = day_checks::day_number(limits, day, beside(day, levels, lengths), 0);
-    if number != 0 {
-        return number;
+    match told {
+        Told::Feasible(plan) => plan.len() != limits.choosers * limits.slots,
+        Told::Infeasible | Told::Incomplete => false,
     }
-    held_number(day, search, levels.len(), res, plan)
+}
+
+// The search is handed on as it is read.
+#[tactic(auto, using(input_data::specs::ReadLaws::day_refused, input_data::specs::ReadLaws::day_passed, crate::specs::Numbers::tell_passed, crate::specs::Numbers::tell_search), unfolding(crate::specs::Checks::tell_read_number))]
+pub fn check_tell<'a>(
+    limits: Limits,
+    day: &Day,
+    search: &'a [u8],
+    levels: &[u32],
+    told: &Told,
+) -> Result<LentSearch<'a>, Refusal>
+    requires { Within limits }
+    ensures number { outcome result ≡ tell_read_number limits day.now search.now levels.now (told_by told.now) }
+    ensures read { IfOk result (λ s. s ≡ search_in search.now) }
+{
+    let wrong = (search.len() != 1114) | wrong_length(limits, told);
+    check_day(limits, day, beside(day, levels, wrong))?;
+    let search = LentSearch::lent(search);
+    check_held(day, &search, levels.len(), told)?;
+    Ok(search)
 }

@@ -23,7 +23,7 @@ use Rattle.scheduling.specs.declared.Scheduling.{Scheduling}
 use Rattle.scheduling.specs.Handed.{outside, kept_of}
 use Rattle.assignment.specs.Calls.{seats}
 use Rattle.assignment.specs.Plan.{kept_plan, kept_seat, bad_plan_for, unseated}
-use Rattle.preference_search.specs.Search.{Told, told, Ask, Outcome, nothing, marked, is_feasible, found_at, learnt, learnt_greedy, ask_at, ended, waiting, asked, level_at, start_of, middle, ends_at, low_after, high_after, search_from, search_levels, search_greedy, searched}
+use Rattle.preference_search.specs.Search.{LimitSolveResult, Feasible, Infeasible, Incomplete, Told, told, Ask, Outcome, nothing, marked, is_feasible, found_at, learnt, learnt_greedy, ask_at, ended, waiting, asked, level_at, start_of, middle, ends_at, low_after, high_after, search_from, search_levels, search_greedy, searched}
 use Rattle.preference_search.specs.Steps.{search_with, search_answer, search_refused, remembers, recalled, remembered, over, next, begun_levels, begun_answer, known_by, told_answer}
 use Rattle.preference_search_checks.specs.Checks.{beside_levels, wrong_length, bad_if, outside_cached, bad_cached, begin_number, spent_at, spent, bad_told, held_number, tell_number}
 use Rattle.assignment_solver.specs.Calls.{begin_answer, tell_answer}
@@ -33,8 +33,6 @@ use Rattle.assignment.specs.Laws.{Small, seats_most}
 use Rattle.preference_search_runs.specs.Run.{after, run, ask_of, asked_after, asks_of, counts, counted, outcome, memory, RunIsSearch}
 use Rattle.preference_search.specs.declared.CachedAssignment.{CachedAssignment}
 use Rattle.preference_search.specs.declared.Known.{Known}
-use Rattle.preference_search.specs.declared.LimitSolveResult.{LimitSolveResult}
-use Rattle.preference_search.specs.declared.LimitSolveResult.TheVariants.{Feasible, Infeasible, Incomplete}
 use Rattle.preference_search.specs.declared.Search.{Search}
 use Rattle.preference_search.specs.declared.SearchAnswer.{SearchAnswer}
 

@@ -2,54 +2,24 @@
 #![tactic(auto)]
 
 ghost use Rattle.std.specs.Prelude.{false, true, ◌≡◌, ◌<◌, ◌≤◌, length};
-ghost use Rattle.preference_search.specs.Bytes.{IsCached, IsSearch, cached_in, search_in};
+ghost use Rattle.preference_search.specs.Answered.{asked_by};
 ghost use Rattle.preference_search.specs.Laws.{Ranged};
 ghost use Rattle.preference_search.specs.Search.{found_at};
-ghost use Rattle.preference_search.specs.Steps.{search_answer, asked_again, begun_levels, next, over, search_refused, remembered, search_with};
+ghost use Rattle.preference_search.specs.Steps.{search_answer, asked_again, begun_levels, remembered, search_with};
+ghost use Rattle.preference_search_steps.specs.Standing.{counted, next_at, over_at, search_at};
 
-use input_data::word;
 use preference_search::{
-    CachedAssignment, Known, Search, SearchAnswer, cached_of, found_at, known_by, middle_of,
-    nothing_known, start_of,
+    Asked, CachedAssignment, Known, LentCached, LentSearch, Range, Search, start_of,
 };
 use scheduling::Scheduling;
 
-// A search with an ask at a level, which has this index; zeros where it has ended.
-pub fn hand_back(
-    asking: bool,
-    greedy: bool,
-    asks: u32,
-    level: u32,
-    index: u32,
-    start: u32,
-    low: u32,
-    high: u32,
-    entries: [u8; 32],
-    known: Known,
-    cached: CachedAssignment,
-) -> SearchAnswer
-    ensures { result ≡ search_answer level index (search_with asking greedy asks start low high entries known cached) }
-{
-    let plan = known.plan; // the prover takes an array field into a literal by a variable only
-    SearchAnswer {
-        number: 0,
-        level,
-        index,
-        search: Search {
-            asking,
-            greedy,
-            found: known.found,
-            optimal: known.optimal,
-            asks,
-            level: known.level,
-            start,
-            low,
-            high,
-            schedule: Scheduling { entries },
-            plan,
-            cached,
-        },
-    }
+// Where a search stands: its setting, how many asks it has made, what is left of its range, and its schedule.
+#[derive(Clone, Copy)]
+pub struct Standing {
+    pub greedy: bool,
+    pub asks: u32,
+    pub range: Range,
+    pub entries: [u8; 32],
 }
 
 // Remembers a plan that was found and is optimal.
@@ -73,161 +43,155 @@ fn remember(
     cached
 }
 
-// The end of a search.
-pub fn end(
-    greedy: bool,
-    asks: u32,
-    start: u32,
-    low: u32,
-    high: u32,
-    entries: [u8; 32],
-    known: Known,
-    cached: CachedAssignment,
-) -> SearchAnswer
-    ensures { result ≡ over greedy asks start low high entries known cached }
-{
-    let kept = remember(greedy, entries, known, cached);
-    hand_back(
-        false, greedy, asks, 0, 0, start, low, high, entries, known, kept,
-    )
-}
-
-// The next ask of a range, or its end.
-#[tactic(auto, using(preference_search::specs::Laws::middle_most), unfolding(preference_search::specs::Steps::next))]
-pub fn go_on(
-    levels: &[u32],
-    asks: u32,
-    start: u32,
-    low: u32,
-    high: u32,
-    entries: [u8; 32],
-    known: Known,
-    cached: CachedAssignment,
-) -> SearchAnswer
-    requires { (high < length levels.now) × (length levels.now ≤ 256) × (asks ≤ 256) }
-    ensures { result ≡ next levels.now asks start low high entries known cached }
-{
-    if high < low {
-        return end(false, asks, start, low, high, entries, known, cached);
+impl Standing {
+    // Before the first ask, and without a range.
+    pub fn new(greedy: bool, entries: [u8; 32]) -> Standing
+        ensures setting { (result.greedy ≡ greedy) × (result.entries ≡ entries) }
+        ensures zeros { (result.asks ≡ 0) × (result.range.start ≡ 0) × (result.range.low ≡ 0) × (result.range.high ≡ 0) }
+    {
+        let range = Range {
+            start: 0,
+            low: 0,
+            high: 0,
+        };
+        Standing {
+            greedy,
+            asks: 0,
+            range,
+            entries,
+        }
     }
-    let m = middle_of(low, high);
-    hand_back(
-        true,
-        false,
-        asks + 1,
-        levels[m as usize],
-        m,
-        start,
-        low,
-        high,
-        entries,
-        known,
-        cached,
-    )
+
+    fn search(self, asking: bool, known: Known, cached: CachedAssignment) -> Search
+        ensures { result ≡ search_at asking self known cached }
+    {
+        let entries = self.entries; // the prover takes an array field into a literal by a variable only
+        let plan = known.plan;
+        Search {
+            asking,
+            greedy: self.greedy,
+            found: known.found,
+            optimal: known.optimal,
+            asks: self.asks,
+            level: known.level,
+            start: self.range.start,
+            low: self.range.low,
+            high: self.range.high,
+            schedule: Scheduling { entries },
+            plan,
+            cached,
+        }
+    }
+
+    // An ask for the level of this index. It is counted.
+    pub fn ask(self, level: u32, index: u32, known: Known, cached: CachedAssignment) -> Asked
+        requires { self.asks ≤ 256 }
+        ensures { asked_by result ≡ search_answer level index (search_at true (counted self) known cached) }
+    {
+        let counted = Standing {
+            asks: self.asks + 1,
+            ..self
+        };
+        Asked {
+            level,
+            index,
+            search: counted.search(true, known, cached),
+        }
+    }
+
+    // An end at which nothing is put in place of what is remembered.
+    pub fn rest(self, known: Known, cached: CachedAssignment) -> Asked
+        ensures { asked_by result ≡ search_answer 0 0 (search_at false self known cached) }
+    {
+        Asked {
+            level: 0,
+            index: 0,
+            search: self.search(false, known, cached),
+        }
+    }
+
+    // The end of a search.
+    pub fn end(self, known: Known, cached: CachedAssignment) -> Asked
+        ensures { asked_by result ≡ over_at self known cached }
+    {
+        let kept = remember(self.greedy, self.entries, known, cached);
+        self.rest(known, kept)
+    }
+
+    // The next ask of a range, or its end.
+    #[tactic(auto, using(preference_search::specs::Laws::middle_most), unfolding(preference_search::specs::Steps::next))]
+    pub fn go_on(self, levels: &[u32], known: Known, cached: CachedAssignment) -> Asked
+        requires setting { self.greedy ≡ false }
+        requires inside { (self.range.high < length levels.now) × (length levels.now ≤ 256) × (self.asks ≤ 256) }
+        ensures { asked_by result ≡ next_at levels.now self known cached }
+    {
+        if self.range.high < self.range.low {
+            return self.end(known, cached);
+        }
+        let m = self.range.middle();
+        self.ask(levels[m as usize], m, known, cached)
+    }
 }
 
-// The next ask of a range where the best plan so far stays: most asks are such, so the answer is made
-// from the lent bytes at once.
+// The next ask of a range above its middle, where the best plan so far stays: most asks are such, so the answer is
+// made from the lent bytes at once.
 #[tactic(auto, using(preference_search::specs::Laws::middle_most))]
 pub fn ask_again(
     levels: &[u32],
-    search: &[u8],
+    search: &LentSearch,
     low: u32,
-    high: u32,
     entries: [u8; 32],
     mark: bool,
-) -> SearchAnswer
-    requires { IsSearch search.now × Ranged (search_in search.now) levels.now × (low ≤ high) × (high < length levels.now) }
-    ensures { result ≡ asked_again levels.now (search_in search.now) low high entries mark }
+) -> Asked
+    requires { Ranged search.now levels.now × (low ≤ search.now.high) }
+    ensures { asked_by result ≡ asked_again levels.now search.now low search.now.high entries mark }
 {
-    let m = middle_of(low, high);
-    let known = known_by(search, mark);
-    let plan = known.plan; // the prover takes an array field into a literal by a variable only
-    SearchAnswer {
-        number: 0,
-        level: levels[m as usize],
-        index: m,
-        search: Search {
-            asking: true,
-            greedy: false,
-            found: known.found,
-            optimal: known.optimal,
-            asks: word(search, 4) + 1,
-            level: known.level,
-            start: word(search, 12),
-            low,
-            high,
-            schedule: Scheduling { entries },
-            plan,
-            cached: cached_of(&search[568..1114]),
-        },
-    }
+    let range = Range {
+        low,
+        ..search.range()
+    };
+    let m = range.middle();
+    let standing = Standing {
+        greedy: false,
+        asks: search.asks(),
+        range,
+        entries,
+    };
+    standing.ask(
+        levels[m as usize],
+        m,
+        search.known(mark),
+        search.cached().copied(),
+    )
 }
 
 // What is remembered: optimal, without an ask and without a level.
-pub fn recall(seats: usize, greedy: bool, entries: [u8; 32], cached: &[u8]) -> SearchAnswer
-    requires { IsCached cached.now × (seats ≤ 512) }
-    ensures { result ≡ search_answer 0 0 (search_with false greedy 0 0 0 0 entries
-        (found_at seats 0 (cached_in cached.now).plan true) (cached_in cached.now)) }
+pub fn recall(seats: usize, greedy: bool, entries: [u8; 32], cached: &LentCached) -> Asked
+    requires { seats ≤ 512 }
+    ensures { asked_by result ≡ search_answer 0 0 (search_with false greedy 0 0 0 0 entries
+        (found_at seats 0 cached.now.plan true) cached.now) }
 {
-    let known = found_at(seats, 0, &cached[34..546], true);
-    hand_back(
-        false,
-        greedy,
-        0,
-        0,
-        0,
-        0,
-        0,
-        0,
-        entries,
-        known,
-        cached_of(cached),
-    )
+    let known = Known::found_at(seats, 0, cached.plan(), true);
+    Standing::new(greedy, entries).rest(known, cached.copied())
 }
 
 // The search over levels; without levels it ends at once.
 #[tactic(auto, using(preference_search::specs::Laws::start_most), unfolding(preference_search::specs::Steps::begun_levels))]
-pub fn begin_levels(levels: &[u32], bound: u32, entries: [u8; 32], cached: &[u8]) -> SearchAnswer
-    requires { IsCached cached.now × (length levels.now ≤ 256) }
-    ensures { result ≡ begun_levels levels.now bound entries (cached_in cached.now) }
+pub fn begin_levels(levels: &[u32], bound: u32, entries: [u8; 32], cached: &LentCached) -> Asked
+    requires { length levels.now ≤ 256 }
+    ensures { asked_by result ≡ begun_levels levels.now bound entries cached.now }
 {
-    let known = nothing_known(true);
-    let held = cached_of(cached);
+    let known = Known::nothing(true);
+    let held = cached.copied();
+    let standing = Standing::new(false, entries);
     if levels.is_empty() {
-        return hand_back(false, false, 0, 0, 0, 0, 0, 0, entries, known, held);
+        return standing.rest(known, held);
     }
     let start = start_of(levels, bound) as u32;
-    let last = (levels.len() - 1) as u32;
-    go_on(levels, 0, start, start, last, entries, known, held)
-}
-
-// A refused call: the number, and zeros, which are a search that has ended.
-pub fn refuse(number: u32) -> SearchAnswer
-    ensures { result ≡ search_refused number }
-{
-    SearchAnswer {
-        number,
-        level: 0,
-        index: 0,
-        search: Search {
-            asking: false,
-            greedy: false,
-            found: false,
-            optimal: false,
-            asks: 0,
-            level: 0,
-            start: 0,
-            low: 0,
-            high: 0,
-            schedule: Scheduling { entries: [0u8; 32] },
-            plan: [0u8; 512],
-            cached: CachedAssignment {
-                there: false,
-                greedy: false,
-                schedule: Scheduling { entries: [0u8; 32] },
-                plan: [0u8; 512],
-            },
-        },
-    }
+    let range = Range {
+        start,
+        low: start,
+        high: (levels.len() - 1) as u32,
+    };
+    Standing { range, ..standing }.go_on(levels, known, held)
 }

@@ -1,2 +1,3 @@
 -- Refusals and their numbers.
 pub mod Number
+pub mod Laws

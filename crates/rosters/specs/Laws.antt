@@ -1,40 +1,44 @@
 -- What the walks that fill a roster ask, and their laws. Definitions and their laws.
-use Rattle.std.specs.Prelude.{ℕ, suc, ◌+◌, ◌*◌, ◌<◌, ◌≤◌, ◌≡◌, refl, Bool, true, false, List, [], ◌∷◌, ◌≢◌, eqb, ltb, leb, length, set}
+use Rattle.std.specs.Prelude.{Result, Ok, Err, IsErrAnd, ℕ, suc, ◌+◌, ◌*◌, ◌<◌, ◌≤◌, ◌≡◌, refl, Bool, true, false, List, [], ◌∷◌, ◌≢◌, eqb, ltb, leb, length, set}
 use Rattle.std.proofs.Common.{sym, ap, ◌∙◌, zero-add, arith, eq-eqb, ne_eqb, leb-false, ltb-false}
 use Rattle.counting.specs.FoldLaws.{fold_suc, fold_ext}
 use Rattle.counting.specs.Fold.{gate, sum_to, only_if, join_to}
 use Rattle.counting.specs.Lists.{length_join, length_join_most, only_length}
 use Rattle.counting.specs.Sums.{sum_mono, sum_swap, sum_pick, sum_most}
 use Rattle.counting.specs.Tests.{bool_cases, eqb_sym}
-use Rattle.counting.specs.WrittenLaws.{Put, one_buffer, put_none, put_step, put_length, written_one}
+use Rattle.counting.specs.WrittenLaws.{Put, one_buffer, put_none, put_step, put_all, put_eq, put_length, written_one}
 use Rattle.input_data.specs.Bytes.{lent_number}
-use Rattle.input_data.specs.BytesLaws.{lent_short}
 use Rattle.input_data.specs.Lengths.{Within, roster_length}
 use Rattle.input_data.specs.declared.Limits.{Limits}
 use Rattle.input_data.specs.declared.InputData.{InputData}
 use Rattle.scheduling.specs.Schedule.{entry_at}
 use Rattle.assignment.specs.Plan.{is_seat, seat_once, row, roster_row, choosers_ordered, choice_row, choices_ordered}
-use Rattle.assignment.specs.Laws.{row_end, plan_number_lem, chooser_row}
-use Rattle.rosters.specs.Calls.{short_roster, choosers_number, choices_number, roster_answer, RosterLeaves}
-use Rattle.rosters.specs.declared.RosterAnswer.{RosterAnswer}
+use Rattle.refusal.specs.Number.{number, outcome}
+use Rattle.refusal.specs.Laws.{some_number}
+use Rattle.refusal.specs.declared.Refusal.{Refusal}
+use Rattle.input_data.specs.Bytes.{day_of}
+use Rattle.input_data.specs.Read.{day_read}
+use Rattle.input_data.specs.ReadLaws.{read_ok}
+use Rattle.assignment.specs.Laws.{row_end, plan_number_lem, chooser_row, exit_refused, unread, plan_read}
+use Rattle.rosters.specs.Calls.{short_roster, roster_answer}
+use Rattle.rosters.specs.Answered.{roster_answered}
+use Rattle.rosters.specs.Rows.{rows_of, row_of, run_of, chooser_of, roster_of, roster_number, is_outside, Rostered}
+use Rattle.rosters.specs.declared.roster.Roster.{Roster}
+use Rattle.rosters.specs.declared.roster.Roster.TheVariants.{ChoosersOf, ChoicesOf}
+use Rattle.rosters.specs.declared.roster.Row.{Row}
 
 -- a row of the plan, and room for what it adds
-pub record RowIn (slots : ℕ) (plan : List ℕ) (base k v at size : ℕ) : Type 0 where
-  pub inside : base + slots ≤ length plan
-  pub room : at + length (row slots plan base k v) ≤ size
+pub record RowIn (slots : ℕ) (plan : List ℕ) (r : Row) (at size : ℕ) : Type 0 where
+  pub inside : r.base + slots ≤ length plan
+  pub room : at + length (run_of slots plan r) ≤ size
 
-pub record ChoosersIn (choosers slots : ℕ) (plan : List ℕ) (k size : ℕ) : Type 0 where
-  pub few : choosers ≤ 64
-  pub short : slots ≤ 8
-  pub inside : choosers * slots ≤ length plan
-  pub room : length (choosers_ordered choosers slots plan k) ≤ size
-
-pub record ChoicesIn (choices slots : ℕ) (plan : List ℕ) (c size : ℕ) : Type 0 where
-  pub few : choices ≤ 32
-  pub short : slots ≤ 8
-  pub chooser : c < 64
-  pub inside : c * slots + slots ≤ length plan
-  pub room : length (choices_ordered choices slots plan c) ≤ size
+-- the rows of a roster, and room for all that they add
+pub record RosterIn (of : Roster) (d : InputData) (plan : List ℕ) (size : ℕ) : Type 0 where
+  pub few : rows_of of d ≤ 64
+  pub short : d.slots ≤ 8
+  pub chooser : chooser_of of < 64
+  pub inside : (i : ℕ) → i < rows_of of d → (row_of of d i).base + d.slots ≤ length plan
+  pub room : length (roster_of of d plan) ≤ size
 
 -- ---- one value
 
@@ -89,53 +93,80 @@ choices_most choices slots plan c =
 
 -- ---- a row
 
--- a seat that is the choice: its value has room, and is stored
-pub seat_room : (slots : ℕ) (plan : List ℕ) (base k v : ℕ) {at s to : ℕ} {d₀ d : List ℕ} → RowIn slots plan base k v at (length d₀) → s < slots → Put (one_buffer ℕ) d₀ at (join_to s (seat_once plan base k v)) d to → entry_at plan (base + s) ≡ k → to < length d
-unfolding row
-seat_room slots plan base k v {s = s} r h p e = omega (arith, rw (eq-eqb (entry_at plan (base + s)) k e) at (run_room (seat_once plan base k v) h p r.room))
+-- v once where the row's seat in slot s is its choice
+abbrev pub seat_of : List ℕ → Row → ℕ → List ℕ
+seat_of plan r s = seat_once plan r.base r.choice r.value s
 
-pub seat_more : (plan : List ℕ) (base k v s : ℕ) {at to : ℕ} {d₀ d : List ℕ} → Put (one_buffer ℕ) d₀ at (join_to s (seat_once plan base k v)) d to → entry_at plan (base + s) ≡ k → Put (one_buffer ℕ) d₀ at (join_to (s + 1) (seat_once plan base k v)) (set d to v) (to + 1)
-seat_more plan base k v s {to = to} {d = d} p e = put_step (seat_once plan base k v) p (put_one v d to (eq-eqb (entry_at plan (base + s)) k e))
+-- a seat that is the choice: its value has room, and is stored
+pub seat_room : (slots : ℕ) (plan : List ℕ) (r : Row) {at s to : ℕ} {d₀ d : List ℕ} → RowIn slots plan r at (length d₀) → s < slots → Put (one_buffer ℕ) d₀ at (join_to s (seat_of plan r)) d to → entry_at plan (r.base + s) ≡ r.choice → to < length d
+unfolding row
+seat_room slots plan r {s = s} q h p e = omega (arith, rw (eq-eqb (entry_at plan (r.base + s)) r.choice e) at (run_room (seat_of plan r) h p q.room))
+
+pub seat_more : (plan : List ℕ) (r : Row) (s : ℕ) {at to : ℕ} {d₀ d : List ℕ} → Put (one_buffer ℕ) d₀ at (join_to s (seat_of plan r)) d to → entry_at plan (r.base + s) ≡ r.choice → Put (one_buffer ℕ) d₀ at (join_to (s + 1) (seat_of plan r)) (set d to r.value) (to + 1)
+seat_more plan r s {to = to} {d = d} p e = put_step (seat_of plan r) p (put_one r.value d to (eq-eqb (entry_at plan (r.base + s)) r.choice e))
 
 -- any other seat adds nothing
-pub seat_skip : (plan : List ℕ) (base k v s : ℕ) {at to : ℕ} {d₀ d : List ℕ} → Put (one_buffer ℕ) d₀ at (join_to s (seat_once plan base k v)) d to → entry_at plan (base + s) ≢ k → Put (one_buffer ℕ) d₀ at (join_to (s + 1) (seat_once plan base k v)) d to
-seat_skip plan base k v s {to = to} {d = d} p e = put_step (seat_once plan base k v) p (put_no v d to (ne_eqb (entry_at plan (base + s)) k e))
+pub seat_skip : (plan : List ℕ) (r : Row) (s : ℕ) {at to : ℕ} {d₀ d : List ℕ} → Put (one_buffer ℕ) d₀ at (join_to s (seat_of plan r)) d to → entry_at plan (r.base + s) ≢ r.choice → Put (one_buffer ℕ) d₀ at (join_to (s + 1) (seat_of plan r)) d to
+seat_skip plan r s {to = to} {d = d} p e = put_step (seat_of plan r) p (put_no r.value d to (ne_eqb (entry_at plan (r.base + s)) r.choice e))
 
--- ---- what accepted input satisfies
+-- ---- a roster
 
--- a roster that is long enough
-pub choosers_in : (l : Limits) (d : InputData) (plan : List ℕ) (k size : ℕ) → Within l → choosers_number l d plan k size ≡ 0 → ChoosersIn d.choosers d.slots plan k size
-choosers_in l d plan k size w e =
+-- what the i-th row adds
+abbrev pub run_at : Roster → InputData → List ℕ → ℕ → List ℕ
+run_at of d plan i = run_of d.slots plan (row_of of d i)
+
+pub runs : (of : Roster) (d : InputData) (plan : List ℕ) → join_to (rows_of of d) (run_at of d plan) ≡ roster_of of d plan
+unfolding choosers_ordered choices_ordered
+runs (ChoosersOf k) d plan = refl
+runs (ChoicesOf c) d plan = refl
+
+-- the next row has room
+pub row_in : (of : Roster) (d : InputData) (plan : List ℕ) {i at slots : ℕ} {r : Row} {b₀ b : List ℕ} → RosterIn of d plan (length b₀) → i < rows_of of d → Put (one_buffer ℕ) b₀ 0 (join_to i (run_at of d plan)) b at → slots ≡ d.slots → r ≡ row_of of d i → RowIn slots plan r at (length b)
+row_in of d plan {i = i} p h q e f = rw (e, f) (record { inside = p.inside i h; room = run_room (run_at of d plan) h q (omega (arith, ap length (runs of d plan), p.room)) })
+
+pub rows_more : (of : Roster) (d : InputData) (plan : List ℕ) (i : ℕ) {at to slots : ℕ} {r : Row} {b₀ b b' : List ℕ} → Put (one_buffer ℕ) b₀ 0 (join_to i (run_at of d plan)) b at → slots ≡ d.slots → r ≡ row_of of d i → Put (one_buffer ℕ) b at (run_of slots plan r) b' to → Put (one_buffer ℕ) b₀ 0 (join_to (i + 1) (run_at of d plan)) b' to
+rows_more of d plan i p e f q = put_step (run_at of d plan) p (rw (e, f) at q)
+
+pub rows_all : (of : Roster) (d : InputData) (plan : List ℕ) (n i : ℕ) {at : ℕ} {b₀ b : List ℕ} → n ≡ rows_of of d → n ≤ i → i ≤ n → Put (one_buffer ℕ) b₀ 0 (join_to i (run_at of d plan)) b at → Put (one_buffer ℕ) b₀ 0 (roster_of of d plan) b at
+rows_all of d plan n i e h g p = put_eq (runs of d plan) (put_all (run_at of d plan) (omega arith) p)
+
+-- accepted input has room for it
+pub roster_in : (l : Limits) (d : InputData) (plan : List ℕ) (of : Roster) (size : ℕ) → Within l → roster_number l d plan of size ≡ 0 → RosterIn of d plan size
+roster_in l d plan (ChoosersOf k) size w e =
     let p = plan_number_lem l d plan (short_roster l size) (leb d.choices k) w e in
     record {
       few = omega (arith, p.day.choosers, w.choosers);
       short = omega (arith, p.day.slots, w.slots);
-      inside = p.plan_in;
+      chooser = omega arith;
+      inside = λ i h. omega (arith, row_end d.slots h, p.plan_in);
       room = omega (arith, choosers_most d.choosers d.slots plan k, p.seats_in, ltb-false size (roster_length l) p.long);
     }
-
-pub choices_in : (l : Limits) (d : InputData) (plan : List ℕ) (c size : ℕ) → Within l → choices_number l d plan c size ≡ 0 → ChoicesIn d.choices d.slots plan c size
-choices_in l d plan c size w e =
+roster_in l d plan (ChoicesOf c) size w e =
     let p = plan_number_lem l d plan (short_roster l size) (leb d.choosers c) w e in
     let h : c < d.choosers = leb-false d.choosers c p.inside in
     record {
       few = omega (arith, p.day.choices, w.choices);
       short = omega (arith, p.day.slots, w.slots);
       chooser = omega (arith, h, p.day.choosers, w.choosers);
-      inside = (chooser_row l d plan (short_roster l size) (leb d.choosers c) c w p h).0;
+      inside = λ i b. (chooser_row l d plan (short_roster l size) (leb d.choosers c) c w p h).0;
       room = omega (arith, choices_most d.choices d.slots plan c, row_end d.slots h, p.seats_in, ltb-false size (roster_length l) p.long);
     }
 
 -- ---- what a call leaves
 
-pub roster_refused : {n : ℕ} {list before : List ℕ} {m : ℕ} {r : RosterAnswer} → m ≡ n → m ≢ 0 → r ≡ roster_answer m 0 → RosterLeaves n list before before r
-roster_refused {n = n} e d p =
-    let f : eqb n 0 ≡ false = ne_eqb n 0 (λ z. d (e ∙ z)) in
-    record { gives = p ∙ rw (f, e); leaves = rw f }
+module _ (l : Limits) (day plan : List ℕ) (of : Roster) (before : List ℕ) where
+  refuses : (res : Result ℕ Refusal) (r : Refusal) → IsErrAnd res (λ y. y ≡ r) → number r ≡ lent_number l day false (roster_number l (day_of day) plan of (length before)) → Rostered l day plan of before before (roster_answered res)
+  refuses res r h e =
+      let q : lent_number l day false (roster_number l (day_of day) plan of (length before)) ≢ 0 = λ z. some_number r (e ∙ z) in
+      record { leaves = record { gives = exit_refused roster_answered (λ n. roster_answer n 0) (λ y. refl) res r _ _ h e; leaves = rw (ne_eqb _ 0 q) } }
 
--- the day has not its length
-pub roster_short : (l : Limits) (day : List ℕ) (n : ℕ) {list before : List ℕ} {r : RosterAnswer} → length day ≢ 2044 → r ≡ roster_answer 2 0 → RosterLeaves (lent_number l day false n) list before before r
-roster_short l day n h p = roster_refused (lent_short l day false n h) (λ z. omega arith) p
+  pub roster_unread : (res : Result ℕ Refusal) (r : Refusal) → Err r ≡ day_read day → IsErrAnd res (λ y. y ≡ r) → Rostered l day plan of before before (roster_answered res)
+  roster_unread res r e h = refuses res r h (unread l day false _ e)
 
-pub roster_done : {n at : ℕ} {list before after : List ℕ} {r : RosterAnswer} → n ≡ 0 → r ≡ roster_answer 0 at → Put (one_buffer ℕ) before 0 list after at → RosterLeaves n list before after r
-roster_done {list = list} {before = before} e p q = record { gives = p ∙ ap (roster_answer 0) (q.count ∙ zero-add (length list)) ∙ rw e; leaves = q.holds ∙ rw e }
+  pub roster_refused : (d : InputData) {T : Type 0} (q : Result T Refusal) (res : Result ℕ Refusal) (r : Refusal) → q ≡ Err r → IsErrAnd res (λ y. y ≡ r) → Ok d ≡ day_read day → outcome q ≡ roster_number l d plan of (length before) → Rostered l day plan of before before (roster_answered res)
+  roster_refused d q res r f h e p = refuses res r h (plan_read l day plan (short_roster l (length before)) (is_outside of) e (rw f at p))
+
+  pub roster_done : (d : InputData) {at : ℕ} {after : List ℕ} → Ok d ≡ day_read day → 0 ≡ roster_number l d plan of (length before) → Put (one_buffer ℕ) before 0 (roster_of of d plan) after at → Rostered l day plan of before after (roster_answer 0 at)
+  roster_done d e p q =
+      let z : lent_number l day false (roster_number l (day_of day) plan of (length before)) ≡ 0 = sym (plan_read l day plan (short_roster l (length before)) (is_outside of) e p) in
+      record { leaves = rw (z, ← (read_ok day e).1) (record { gives = ap (roster_answer 0) (q.count ∙ zero-add _); leaves = q.holds }) }

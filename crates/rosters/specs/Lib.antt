@@ -1,3 +1,5 @@
 -- assignment.rs: rosters.
 pub mod Calls
+pub mod Answered
+pub mod Rows
 pub mod Laws

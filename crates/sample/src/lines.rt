@@ -1,5 +1,6 @@
 // What the program prints, part by part.
 use constraint::Constraint;
+use refusal::Refusal;
 use score::Score;
 use std::cmp::Ordering;
 use std::fmt;
@@ -17,8 +18,18 @@ impl fmt::Display for Outcome {
     }
 }
 
-pub(crate) fn yes_or_no(holds: bool) -> &'static str {
-    if holds { "yes" } else { "no" }
+// A verdict, or why it is refused.
+#[derive(Clone, Copy)]
+pub(crate) struct Verdict(pub(crate) Result<bool, Refusal>);
+
+impl fmt::Display for Verdict {
+    fn fmt<W: fmt::Write>(&self, f: &mut fmt::Formatter<W>) -> fmt::Result {
+        match self.0 {
+            Ok(true) => write!(f, "yes"),
+            Ok(false) => write!(f, "no"),
+            Err(refusal) => write!(f, "refused: {refusal}"),
+        }
+    }
 }
 
 // The numbers of a list, each with a blank before it.

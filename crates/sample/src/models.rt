@@ -1,9 +1,9 @@
 // The rows on models, on the values of their edges, and on plans.
 use crate::layouts::schedule_of;
-use crate::lines::{Listed, Outcome, Printed, yes_or_no};
+use crate::lines::{Listed, Outcome, Printed, Verdict};
 use crate::states::built;
-use model_buffers::ModelAnswer;
-use scoring::Solution;
+use model_buffers::{LentBuffers, LentInput, ModelAnswer};
+use scoring::{Scoring, Solution};
 use std::io;
 
 const PREFERENCES: [u32; 6] = [0, 1, 0, 0, 2, 1];
@@ -36,6 +36,16 @@ impl Buffers {
             ends: [0; 2048],
             blocked: [0; 4096],
         }
+    }
+}
+
+// What a call is lent beside the day and the state, at limit 1.
+fn input(lists: &[u8]) -> LentInput<'_> {
+    LentInput {
+        limit: 1,
+        preferences: &PREFERENCES,
+        costs: &COSTS,
+        lists,
     }
 }
 
@@ -84,22 +94,18 @@ pub(crate) fn rows_of_model(
     let mut lists = [0; 256];
     let state = built(day, &mut lists);
     let mut b = Buffers::new();
-    let model = solve_with_limit::build_model(
-        day,
-        &state,
-        1,
-        &PREFERENCES,
-        &COSTS,
-        &lists,
-        &mut b.supplies,
-        &mut b.from,
-        &mut b.to,
-        &mut b.max,
-        &mut b.cost,
-        &mut b.entries,
-        &mut b.ends,
-        &mut b.blocked,
-    );
+    let mut lent = LentBuffers {
+        supplies: &mut b.supplies,
+        from: &mut b.from,
+        to: &mut b.to,
+        max: &mut b.max,
+        cost: &mut b.cost,
+        entries: &mut b.entries,
+        ends: &mut b.ends,
+        blocked: &mut b.blocked,
+    };
+    let built = solve_with_limit::build_model(day, &state, &input(&lists), &mut lent);
+    let model = ModelAnswer::from(built);
     println!(rt; "{text}: {}", Outcome(model.number))?;
     if grouped {
         return rows_of_groups(rt, model, &b);
@@ -114,25 +120,19 @@ fn checked(day: &[u8; 2044], values: &[i32; 2080], plan: &mut [u8; 512]) -> u32 
     let mut lists = [0; 256];
     let state = built(day, &mut lists);
     let mut b = Buffers::new();
-    let model = solve_with_limit::check_values(
-        day,
-        &state,
-        1,
-        &PREFERENCES,
-        &COSTS,
-        &lists,
-        values,
-        &mut b.supplies,
-        &mut b.from,
-        &mut b.to,
-        &mut b.max,
-        &mut b.cost,
-        &mut b.entries,
-        &mut b.ends,
-        &mut b.blocked,
-        plan,
-    );
-    model.number
+    let mut lent = LentBuffers {
+        supplies: &mut b.supplies,
+        from: &mut b.from,
+        to: &mut b.to,
+        max: &mut b.max,
+        cost: &mut b.cost,
+        entries: &mut b.entries,
+        ends: &mut b.ends,
+        blocked: &mut b.blocked,
+    };
+    let input = input(&lists);
+    let checked = solve_with_limit::check_values(day, &state, &input, values, &mut lent, plan);
+    ModelAnswer::from(checked).number
 }
 
 fn row_of_score(
@@ -141,22 +141,28 @@ fn row_of_score(
     schedule: &[u8; 32],
     plan: &[u8; 512],
 ) -> io::Result<()> {
-    let powers = [0.0, 1.0, 8.0];
-    let solution = Solution::Complete;
-    let answer = scoring::evaluate(day, solution, schedule, plan, false, &PREFERENCES, &powers);
-    let score = answer.score;
-    let major = score::bits(score.major);
-    let minor = score::bits(score.minor);
-    println!(rt; "score {}, bits {major:08x} {minor:08x}", Printed(score))
+    let by = Scoring {
+        greedy: false,
+        preferences: &PREFERENCES,
+        powers: &[0.0, 1.0, 8.0],
+    };
+    match scoring::evaluate(day, &Solution::Complete(schedule, plan), &by) {
+        Ok(score) => {
+            let major = score::bits(score.major);
+            let minor = score::bits(score.minor);
+            println!(rt; "score {}, bits {major:08x} {minor:08x}", Printed(score))
+        }
+        Err(refusal) => println!(rt; "score refused: {refusal}"),
+    }
 }
 
 // The verdicts on the schedule and on a plan, and the plan's score.
 fn rows_of_verdict(rt: &HostRuntime, day: &[u8; 2044], plan: &[u8; 512]) -> io::Result<()> {
     let schedule = schedule_of(0, 0, 1);
-    let scheduled = scoring::schedule_is_feasible(day, &schedule);
-    let verdict = scoring::is_feasible(day, &schedule, plan);
-    println!(rt; "schedule feasible: {}", yes_or_no(scheduled.holds))?;
-    println!(rt; "plan feasible: {}", yes_or_no(verdict.holds))?;
+    let scheduled = Verdict(scoring::schedule_is_feasible(day, &schedule));
+    let planned = Verdict(scoring::is_feasible(day, &schedule, plan));
+    println!(rt; "schedule feasible: {scheduled}")?;
+    println!(rt; "plan feasible: {planned}")?;
     row_of_score(rt, day, &schedule, plan)
 }
 
@@ -165,11 +171,8 @@ fn rows_of_plan(rt: &HostRuntime, day: &[u8; 2044], plan: &[u8; 512]) -> io::Res
     let mut roster = [0; 512];
     println!(rt; "chooser 0: choices{}", Listed(&plan[..2]))?;
     println!(rt; "chooser 1: choices{}", Listed(&plan[2..4]))?;
-    let answer = rosters::choosers_ordered(day, plan, 2, &mut roster);
-    println!(rt;
-        "choice 2: choosers{}",
-        Listed(&roster[..answer.length.min(512)])
-    )
+    let length = rosters::choosers_ordered(day, plan, 2, &mut roster).unwrap_or(0);
+    println!(rt; "choice 2: choosers{}", Listed(&roster[..length.min(512)]))
 }
 
 // Values with this one at edge 6, and what the library says of them.

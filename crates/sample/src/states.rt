@@ -17,8 +17,10 @@ fn row_of_list(
     lists: &[u8; 256],
     slot: usize,
 ) -> io::Result<()> {
-    let list = Listed(schedule_updates::slot_list(day, state, lists, slot));
-    println!(rt; "slot {slot}: choices{list}")
+    match schedule_updates::slot_list(day, state, lists, slot) {
+        Ok(list) => println!(rt; "slot {slot}: choices{}", Listed(list)),
+        Err(refusal) => println!(rt; "slot {slot}: {}", Outcome(u32::from(refusal))),
+    }
 }
 
 // A state that a call gave, with its slot lists.
@@ -34,7 +36,11 @@ fn rows_of_state(
     row_of_list(rt, day, &state, lists, 1)
 }
 
-// A fresh build.
+// A fresh build, as C is given it: a number, and zeros beside a refusal.
+fn answer_of_build(day: &[u8; 2044], schedule: &[u8; 32], lists: &mut [u8]) -> StateAnswer {
+    schedule_updates::build(day, schedule, lists).into()
+}
+
 pub(crate) fn rows_of_build(
     rt: &HostRuntime,
     text: &str,
@@ -42,7 +48,7 @@ pub(crate) fn rows_of_build(
     schedule: &[u8; 32],
 ) -> io::Result<()> {
     let mut lists = [0; 256];
-    let answer = schedule_updates::build(day, schedule, &mut lists);
+    let answer = answer_of_build(day, schedule, &mut lists);
     println!(rt; "{text}: {}", Outcome(answer.number))?;
     rows_of_state(rt, day, answer, &lists)
 }
@@ -50,7 +56,7 @@ pub(crate) fn rows_of_build(
 // The state of choices 0, 1, 2 in slots 0, 0, 1, as it is lent on, and its slot lists.
 pub(crate) fn built(day: &[u8; 2044], lists: &mut [u8]) -> [u8; 2112] {
     let schedule = schedule_of(0, 0, 1);
-    let answer = schedule_updates::build(day, &schedule, lists);
+    let answer = answer_of_build(day, &schedule, lists);
     state_bytes(answer.state)
 }
 
@@ -63,7 +69,7 @@ pub(crate) fn rows_of_update(
 ) -> io::Result<()> {
     let mut lists = [0; 256];
     let state = built(day, &mut lists);
-    let answer = schedule_updates::update(day, &state, schedule, &mut lists);
+    let answer = StateAnswer::from(schedule_updates::update(day, &state, schedule, &mut lists));
     println!(rt; "{text}: {}", Outcome(answer.number))?;
     rows_of_state(rt, day, answer, &lists)
 }
@@ -72,7 +78,7 @@ pub(crate) fn rows_of_update(
 pub(crate) fn row_of_refusal(rt: &HostRuntime, day: &[u8; 2044]) -> io::Result<()> {
     let schedule = schedule_of(0, 0, 2);
     let mut lists = [0; 256];
-    let answer = schedule_updates::build(day, &schedule, &mut lists);
+    let answer = answer_of_build(day, &schedule, &mut lists);
     let outcome = Outcome(answer.number);
     print!(rt; "choice 2 in slot 2, which the day has not: {outcome}, ")?;
     row_of_covered(rt, answer)
@@ -88,7 +94,7 @@ fn row_of_limit(
     let day = day_of(choosers, max_preference, 0);
     let schedule = schedule_of(0, 0, 1);
     let mut lists = [0; 256];
-    let answer = schedule_updates::build(&day, &schedule, &mut lists);
+    let answer = answer_of_build(&day, &schedule, &mut lists);
     println!(rt; "{text}: {}", Outcome(answer.number))
 }
 

@@ -3,10 +3,9 @@ use Rattle.std.specs.Prelude.{ℕ, false, cond, List, [], ◌∷◌, eqb, leb, �
 use Rattle.std.specs.Float.{fin}
 use Rattle.assignment_solver.specs.Calls.{begin_answer}
 use Rattle.preference_search_runs.specs.Run.{asks_of, run}
-use Rattle.preference_search.specs.Search.{Told, Ask, told}
+use Rattle.preference_search.specs.Search.{Feasible, Infeasible, Told, Ask, told}
 use Rattle.preference_search.specs.Steps.{cached, no_plan}
 use Rattle.preference_search.specs.declared.CachedAssignment.{CachedAssignment}
-use Rattle.preference_search.specs.declared.LimitSolveResult.TheVariants.{Feasible, Infeasible}
 use Rattle.preference_search.specs.declared.SearchAnswer.{SearchAnswer}
 use Rattle.input_data.specs.Day.{no_numbers}
 use Rattle.input_data.specs.Lengths.{full_day}
@@ -19,9 +18,8 @@ use Rattle.schedule_state.specs.Calls as State
 use Rattle.schedule_state.specs.declared.AssignmentScheduleState.{AssignmentScheduleState}
 use Rattle.schedule_state.specs.declared.StateAnswer.{StateAnswer}
 use Rattle.scheduling.specs.declared.Scheduling.{Scheduling}
-use Rattle.scoring.specs.Calls.{evaluate_answer}
-use Rattle.scoring.specs.declared.solution.Solution.TheVariants.{Complete}
-use Rattle.scoring.specs.declared.ScoreAnswer.{ScoreAnswer}
+use Rattle.scoring.specs.Calls.{ScoreAnswer, evaluate_answer}
+use Rattle.scoring.specs.Solution.{Complete}
 use Rattle.model_buffers.specs.Buffers as Room
 use Rattle.flow_model.specs.Lent as Filled
 use Rattle.flow_model.specs.Calls as Model

@@ -2,15 +2,15 @@
 ghost use Rattle.std.specs.Prelude.{◌≡◌, suc, ◌<◌, ◌≤◌, length, eqb};
 ghost use Rattle.counting.specs.Fold.{count_to};
 ghost use Rattle.counting.specs.Holds.{is_of};
-ghost use Rattle.input_data.specs.Bytes.{day_of};
 ghost use Rattle.scheduling.specs.Schedule.{entry_at};
-ghost use Rattle.satisfies_constraints.specs.Constraints.{apart, has_offset, size_of, scheduling_at, scheduling_in};
+ghost use Rattle.satisfies_constraints.specs.Constraints.{apart, has_offset, size_of, scheduling_at, scheduling_met};
 ghost use Rattle.satisfies_constraints.specs.ByNumber.{size_by_number, meets_schedule, SlotLeft};
 ghost use Rattle.satisfies_constraints.specs.Laws.{ScheduleRead};
 
+use input_data::{ConstraintNumbers, Day};
+
 // The entry of a choice, or none.
 pub fn entry_of(entries: &[u8; 32], k: usize) -> u8
-    requires { length entries.now ≡ 32 }
     ensures { result ≡ entry_at entries.now k }
 {
     if k < 32 { entries[k] } else { 0 }
@@ -31,6 +31,7 @@ fn are_apart(a: u8, b: u8) -> bool
 }
 
 // Right slot minus left slot is the offset, or neither has a slot.
+#[tactic(auto, using(crate::specs::Laws::offset_none, crate::specs::Laws::offset_one, crate::specs::Laws::offset_two, counting::specs::Signed::back))]
 fn has_offset(left: u8, right: u8, offset: i32) -> bool
     ensures { result ≡ has_offset left right offset }
 {
@@ -45,6 +46,7 @@ fn has_offset(left: u8, right: u8, offset: i32) -> bool
 }
 
 // A count against a limit, by the operator's number.
+#[tactic(auto, unfolding(crate::specs::ByNumber::size_by_number, counting::specs::Ints::eq_z))]
 fn has_size(op: i32, count: usize, limit: usize) -> bool
     ensures { result ≡ size_by_number op count limit }
 {
@@ -59,6 +61,7 @@ fn has_size(op: i32, count: usize, limit: usize) -> bool
 }
 
 // How many of the first entries are `want`. All is in bytes, so that the walk is quick.
+#[tactic(auto, using(counting::specs::FoldLaws::fold_none, counting::specs::FoldLaws::fold_more))]
 fn count_entries(choices: usize, entries: &[u8; 32], want: u8) -> u8
     requires { choices ≤ 32 }
     ensures { (result ≡ count_to choices (is_of (entry_at entries.now) want)) × (result ≤ 32) }
@@ -79,45 +82,39 @@ fn size_of(choices: usize, entries: &[u8; 32], slot: usize) -> usize
 }
 
 // The test of one constraint, by its kind's number.
-fn meets_schedule(
-    choices: usize,
-    entries: &[u8; 32],
-    kind: u32,
-    left: usize,
-    right: usize,
-    extra: i32,
-) -> bool
-    requires { (choices ≤ 32) × (length entries.now ≡ 32) × SlotLeft kind left }
-    ensures { result ≡ meets_schedule choices entries.now kind left right extra }
+#[tactic(auto, unfolding(crate::specs::ByNumber::meets_schedule))]
+fn meets_schedule(choices: usize, entries: &[u8; 32], c: ConstraintNumbers) -> bool
+    requires { (choices ≤ 32) × SlotLeft c.kind c.left }
+    ensures { result ≡ meets_schedule choices entries.now c.kind c.left c.target c.extra }
 {
+    let left = c.left as usize;
+    let right = c.target as usize;
     let a = entry_of(entries, left);
     let b = entry_of(entries, right);
-    match kind {
+    match c.kind {
         1 => names(a, right),
         2 => !names(a, right),
         3 => a == b,
         4 => are_apart(a, b),
-        5 => has_offset(a, b, extra),
-        _ => has_size(extra, size_of(choices, entries, left), right),
+        5 => has_offset(a, b, c.extra),
+        _ => has_size(c.extra, size_of(choices, entries, left), right),
     }
 }
 
-// Whether a schedule meets every scheduling constraint of the day. The numbers are read where they lie:
-// those of accepted constraints are taken as they stand.
-pub fn scheduling_met(choices: usize, entries: &[u8; 32], day: &[u8]) -> bool
-    requires { ScheduleRead choices entries.now day.now }
-    ensures { result ≡ scheduling_in choices entries.now (day_of day.now).scheduling }
+// The test of one of the day's constraints. The numbers are read where they lie: those of accepted constraints
+// are taken as they stand.
+fn scheduling_at(day: &Day, entries: &[u8; 32], j: usize) -> bool
+    requires { ScheduleRead day.now × (j < day.now.scheduling.count) }
+    ensures { result ≡ scheduling_at day.now.choices entries.now day.now.scheduling j }
 {
-    counting::all_below(
-        input_data::scheduling_count(day),
-        |j|
-            requires { j < (day_of day.now).scheduling.count × ScheduleRead choices entries.now day.now }
-            ensures { result ≡ scheduling_at choices entries.entry.now (day_of day.entry.now).scheduling j }
-        {
-            let c = input_data::numbers_at(day, 508, j);
-            let left = c.left as usize;
-            let target = c.target as usize;
-            meets_schedule(choices, entries, c.kind, left, target, c.extra)
-        },
-    )
+    meets_schedule(day.choices(), entries, day.scheduling().get(j))
+}
+
+// Whether a schedule meets every scheduling constraint of the day.
+#[tactic(auto, unfolding(crate::specs::Constraints::scheduling_met))]
+pub fn scheduling_met(day: &Day, entries: &[u8; 32]) -> bool
+    requires { ScheduleRead day.now }
+    ensures { result ≡ scheduling_met day.now entries.now }
+{
+    counting::all_below(day.scheduling().count(), |j| scheduling_at(day, entries, j))
 }

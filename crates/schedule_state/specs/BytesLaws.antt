@@ -1,22 +1,15 @@
 -- Laws of a state lent as bytes. Assumes nothing.
-use Rattle.std.specs.Prelude.{ℕ, ◌+◌, ◌*◌, ◌<◌, ◌≡◌, Bool, List, [], ◌∷◌, ◌++◌, get_or, take}
-use Rattle.std.proofs.Math.Path.{refl}
-use Rattle.std.proofs.Common.{sym, ap, ◌∙◌, arith, length-take, ext_get_or, get_or-take}
+use Rattle.std.specs.Prelude.{ℕ, ◌+◌, ◌*◌, ◌<◌, ◌≡◌, Bool, List, [], ◌∷◌, ◌++◌, length, get_or, take}
+use Rattle.std.proofs.Common.{ap, arith, length-take}
 use Rattle.std.proofs.Math.Bool.{false}
-use Rattle.counting.specs.Fold.{table_to}
 use Rattle.counting.specs.FoldLaws.{fold_ext}
-use Rattle.counting.specs.Lists.{table_at, length_table}
+use Rattle.counting.specs.Lists.{table_at}
 use Rattle.input_data.specs.Bytes.{word_at}
-use Rattle.scheduling.specs.Schedule.{entry_at}
 use Rattle.schedule_state.specs.Bytes.{IsState, covered_in, block_in, state_in}
 
 -- ---- laws
 
 module _ (b : List ℕ) where
-  pub schedule_in : take 32 b ≡ (state_in b).schedule.entries
-  unfolding state_in
-  schedule_in = refl
-
   pub covered_in_lem : (s : ℕ) → s < 8 → get_or (state_in b).covered s 0 ≡ covered_in b s
   unfolding state_in
   covered_in_lem s h = table_at 8 (covered_in b) 0 s h
@@ -25,10 +18,9 @@ module _ (b : List ℕ) where
   unfolding state_in
   block_in_lem p h = table_at 2048 (block_in b) false p h
 
--- the bytes of its schedule, one by one
-pub entries_in : (b : List ℕ) → IsState b → table_to 32 (entry_at b) ≡ take 32 b
-entries_in b e = ext_get_or 0 (table_to 32 (entry_at b)) (take 32 b) (length_table 32 (entry_at b) ∙ simp length-take (omega arith))
-    (λ i h. let l : i < 32 = omega (arith, length_table 32 (entry_at b)) in table_at 32 (entry_at b) 0 i l ∙ sym (get_or-take 32 b i 0 l))
+-- the bytes of its schedule
+pub schedule_long : (b : List ℕ) → IsState b → length (take 32 b) ≡ 32
+schedule_long b e = simp length-take (omega arith)
 
 -- States that agree but for what a set flag byte is stand for the same state: every answer, which is given of the state that the bytes stand for, is the same.
 pub record StateAlike (a b : List ℕ) : Type 0 where

@@ -10,11 +10,10 @@ use Rattle.input_data.specs.declared.checks.Beside.{Beside}
 use Rattle.scheduling.specs.Handed.{schedule_of, not_schedule, outside, kept_of}
 use Rattle.scheduling.specs.Schedule.{entry_at}
 use Rattle.scheduling.specs.declared.Scheduling.{Scheduling}
-use Rattle.counting.specs.Fold.{table_to}
 use Rattle.slot_lists.specs.Sums.{one, weighed}
 use Rattle.slot_lists.specs.Walk.{built, carried}
 use Rattle.schedule_state.specs.Bytes.{not_state, state_in}
-use Rattle.schedule_state.specs.State.{state_of, zero_state, blocked_cell, inconsistent}
+use Rattle.schedule_state.specs.State.{state_of, zero_state, inconsistent}
 use Rattle.schedule_state.specs.declared.AssignmentScheduleState.{AssignmentScheduleState}
 use Rattle.schedule_state.specs.declared.StateAnswer.{StateAnswer}
 use Rattle.schedule_state.specs.declared.listing.SlotListAnswer.{SlotListAnswer}
@@ -90,10 +89,6 @@ pub record Leaves (n : ℕ) (st : AssignmentScheduleState) (made before after : 
 -- 11 of a schedule that is lent, where it has its length
 abbrev pub names_outside : InputData → List ℕ → Bool
 names_outside d sch = not (not_schedule sch) && outside d (schedule_of sch)
-
--- a state whose covered counts are given, and its answer
-abbrev pub made_of : InputData → List ℕ → List ℕ → StateAnswer
-made_of d sch covered = state_answer 0 (record { schedule = record { entries = sch }; covered = covered; blocks = table_to 2048 (blocked_cell d sch) })
 
 -- what the calls on bytes give and leave, each as one promise
 abbrev pub build_lent : Limits → List ℕ → List ℕ → ℕ → ℕ

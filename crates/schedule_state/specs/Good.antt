@@ -1,11 +1,13 @@
 -- What accepted input gives the inner functions.
-use Rattle.std.specs.Prelude.{ℕ, suc, ◌+◌, ◌-◌, ◌*◌, ◌<◌, ◌≤◌, ◌≡◌, Bool, ◌≢◌, List, eqb, get_or, replicate}
+use Rattle.std.specs.Prelude.{ℕ, suc, ◌+◌, ◌-◌, ◌*◌, ◌<◌, ◌≤◌, ◌≡◌, Bool, ◌≢◌, List, eqb, get_or}
+use Rattle.std.specs.Prelude.{Result, IfOk}
 use Rattle.std.proofs.Math.Path.{ap}
+use Rattle.refusal.specs.Number.{outcome}
+use Rattle.refusal.specs.declared.Refusal.{Refusal}
 use Rattle.std.proofs.Common.{◌∙◌, mul-le-mul_left, mul-suc, arith}
 use Rattle.std.proofs.Math.Bool.{false, not, ◌||◌}
-use Rattle.std.proofs.lemmas.List.{get_or-replicate}
 use Rattle.input_data.specs.Accepted.{Accepted}
-use Rattle.input_data.specs.Bytes.{IsDay, day_of}
+use Rattle.input_data.specs.Day.{min_at}
 use Rattle.input_data.specs.Fits.{left_chooser, right_below}
 use Rattle.input_data.specs.Lengths.{Within, lists_length}
 use Rattle.input_data.specs.declared.Limits.{Limits}
@@ -15,20 +17,18 @@ use Rattle.scheduling.specs.Handed.{outside, kept_of}
 use Rattle.scheduling.specs.HandedLaws.{kept_inside}
 use Rattle.scheduling.specs.Schedule.{entry_at}
 use Rattle.scheduling.specs.declared.Scheduling.{Scheduling}
-use Rattle.counting.specs.Fold.{gate, any_to}
+use Rattle.counting.specs.Fold.{any_to}
 use Rattle.counting.specs.FoldLaws.{fold_ext}
 use Rattle.counting.specs.Tests.{none_each, each_none, each_below}
 use Rattle.slot_lists.specs.Held.{misheld}
 use Rattle.slot_lists.specs.Marks.{Looks}
-use Rattle.slot_lists.specs.SumsLaws.{Weighs, Sums, SlotSums, sums_table}
-use Rattle.slot_lists.specs.Sums.{one, in_slot, weight_at}
-use Rattle.slot_lists.specs.WalkLaws.{Carries, ListsCarried}
+use Rattle.slot_lists.specs.SumsLaws.{Weighs, AreSums}
+use Rattle.slot_lists.specs.declared.SlotSums.{SlotSums}
 use Rattle.blocks.specs.BlocksLaws.{Blocking, Blocks, cell_in}
 use Rattle.blocks.specs.Blocks.{blocked_by, blocks_at, cell}
-use Rattle.schedule_state.specs.Bytes.{IsState, block_in, state_in}
-use Rattle.schedule_state.specs.BytesLaws.{block_in_lem}
-use Rattle.schedule_state.specs.Calls.{state_answer, made_of, state_number}
-use Rattle.schedule_state.specs.State.{state_of, blocked_at, covered_at, inconsistent, miscounted, miscounted_in, miscounted_at, misblocked, misblocked_in, misblocked_row, misblocked_at, unlike, unlike_at, sums_of, cells_of}
+use Rattle.schedule_state.specs.Bytes.{IsState}
+use Rattle.schedule_state.specs.Calls.{state_number}
+use Rattle.schedule_state.specs.State.{is_blocked, blocked_at, covered_at, inconsistent, miscounted, miscounted_in, miscounted_at, misblocked, misblocked_in, misblocked_row, misblocked_at, unlike, unlike_at, sums_of, cells_of}
 use Rattle.schedule_state.specs.declared.AssignmentScheduleState.{AssignmentScheduleState}
 
 -- an accepted day, and a buffer that has room for its lists
@@ -43,10 +43,10 @@ pub record Handed (l : Limits) (b : Beside) (st : List ℕ) (size : ℕ) : Type 
   pub state : b.bad_lengths ≡ false → IsState st
   pub room : b.bad_lengths ≡ false → lists_length l ≤ size
 
--- the number of a call that is handed a state; where it is 0 also the sums of the state's schedule
-pub record Found (l : Limits) (d : InputData) (st : AssignmentScheduleState) (b : Beside) (also : Bool) (bytes lens covered : List ℕ) (n : ℕ) : Type 0 where
-  pub number : n ≡ state_number l d st b also bytes
-  pub sums : n ≡ 0 → SlotSums d.mins (kept_of d st.schedule) d.choices lens covered
+-- the result of a call that is handed a state: its number, and where it is accepted the sums of the state's schedule
+pub record Found (l : Limits) (d : InputData) (st : AssignmentScheduleState) (b : Beside) (also : Bool) (bytes : List ℕ) (r : Result SlotSums Refusal) : Type 0 where
+  pub number : outcome r ≡ state_number l d st b also bytes
+  pub sums : IfOk r (AreSums (min_at d) (entry_at (kept_of d st.schedule)) d.choices)
 
 -- a schedule, by its entries, that names the day's slots alone
 pub record Names (d : InputData) (sch : List ℕ) : Type 0 where
@@ -57,14 +57,6 @@ pub record Small (d : InputData) : Type 0 where
   pub choosers : d.choosers ≤ 64
   pub choices : d.choices ≤ 32
   pub blocking : Blocking d.assignment
-
--- sums of 32 ones are counts
-pub counts_of : {f : ℕ → ℕ} {n : ℕ} {a : List ℕ} → n ≤ 32 → Sums (entry_at (replicate 32 1)) f n a → Sums one f n a
-counts_of {f = f} {n = n} h p = record {
-  long = p.long;
-  at = λ s b. p.at s b
-      ∙ fold_ext ◌+◌ 0 n (weight_at (entry_at (replicate 32 1)) f s) (weight_at one f s) (λ k c. ap (λ (w : ℕ). gate (in_slot f s k) w) (get_or-replicate {A = ℕ} 32 k 1 0 (omega arith)));
-}
 
 module _ {l : Limits} {d : InputData} {size : ℕ} (r : Ready l d size) where
   pub choices_most : d.choices ≤ 32
@@ -105,9 +97,6 @@ module _ {l : Limits} {d : InputData} {size : ℕ} (r : Ready l d size) where
   pub min_most : (k : ℕ) → k < d.choices → entry_at d.mins k ≤ 1000
   min_most k h = omega (arith, r.day.min_max k h, r.day.max_most k h)
 
-  pub one_most : (k : ℕ) → k < d.choices → entry_at (replicate 32 1) k ≤ 1000
-  one_most k h = omega (arith, get_or-replicate {A = ℕ} 32 k 1 0 (omega (arith, choices_most)))
-
   -- what summing asks of a schedule that names the day's slots alone
   pub weighs_of : {sch : List ℕ} → Names d sch → Weighs sch d.mins d.choices
   weighs_of f = record { count = choices_most; small = λ k b. omega (arith, f.fits k b, slots_most); light = min_most }
@@ -121,19 +110,14 @@ module _ {l : Limits} {d : InputData} {size : ℕ} (r : Ready l d size) where
 -- ---- check 12
 
 -- what it asks: the state's own schedule, which names the day's slots alone, and its sums
-pub record Holdable (l : Limits) (day state entries lens covered : List ℕ) (size : ℕ) : Type 0 where
-  pub is_day : IsDay day
-  pub is_state : IsState state
-  pub ready : Ready l (day_of day) size
-  pub own : entries ≡ kept_of (day_of day) (state_in state).schedule
-  pub names : Names (day_of day) entries
-  pub sums : SlotSums (day_of day).mins entries (day_of day).choices lens covered
+pub record Holdable (l : Limits) (d : InputData) (st : AssignmentScheduleState) (entries : List ℕ) (s : SlotSums) (size : ℕ) : Type 0 where
+  pub ready : Ready l d size
+  pub own : entries ≡ kept_of d st.schedule
+  pub names : Names d entries
+  pub sums : AreSums (min_at d) (entry_at entries) d.choices s
 
-module _ {l : Limits} {day state entries lens covered : List ℕ} {size : ℕ} (h : Holdable l day state entries lens covered size) where
-  abbrev d : InputData
-  d = day_of day
-
-  pub looks : Looks l.choices d.choices d.slots entries size lens
+module _ {l : Limits} {d : InputData} {st : AssignmentScheduleState} {entries : List ℕ} {s : SlotSums} {size : ℕ} (h : Holdable l d st entries s size) where
+  pub looks : Looks l.choices d.choices d.slots entries size s.lens
   looks = record {
     count = choices_most h.ready;
     few = slots_most h.ready;
@@ -144,16 +128,16 @@ module _ {l : Limits} {day state entries lens covered : List ℕ} {size : ℕ} (
   }
 
   -- what the code holds the state against is its own schedule
-  counted : (c : List ℕ) → miscounted_in (sums_of covered) d.slots c ≡ miscounted d entries c
+  counted : (c : List ℕ) → miscounted_in (sums_of s.covered) d.slots c ≡ miscounted d entries c
   unfolding miscounted_in
-  counted c = fold_ext ◌||◌ false d.slots (miscounted_at (sums_of covered) c) (miscounted_at (covered_at d entries) c)
-      (λ s b. ap (λ (n : ℕ). not (eqb (get_or c s 0) n)) (h.sums.covered.at s (omega (arith, slots_most h.ready))))
+  counted c = fold_ext ◌||◌ false d.slots (miscounted_at (sums_of s.covered) c) (miscounted_at (covered_at d entries) c)
+      (λ t b. ap (λ (n : ℕ). not (eqb (get_or c t 0) n)) (h.sums.covered.at t (omega (arith, slots_most h.ready))))
 
   pub inconsistent_is : (bytes : List ℕ) {x y w : Bool} → x ≡ misheld l.choices (entry_at entries) d.choices d.slots bytes
-      → y ≡ miscounted_in (sums_of covered) d.slots (state_in state).covered → w ≡ misblocked_in d entries (state_in state).blocks
-      → (x || y || w) ≡ inconsistent l d (state_in state) bytes
+      → y ≡ miscounted_in (sums_of s.covered) d.slots st.covered → w ≡ misblocked_in d entries st.blocks
+      → (x || y || w) ≡ inconsistent l d st bytes
   inconsistent_is bytes p q r =
-      rw (p, q ∙ counted (state_in state).covered, r, h.own)
+      rw (p, q ∙ counted st.covered, r, h.own)
 
 -- the blocks that the code makes anew are those of the schedule
 pub blocked_in : (d : InputData) (sch : List ℕ) (blocks : List Bool) {b : List Bool} → Small d → Blocks (blocked_at d sch) b → misblocked (cells_of b) d.choosers d.choices blocks ≡ misblocked_in d sch blocks
@@ -167,11 +151,10 @@ nothing_blocked : (d : InputData) (sch : List ℕ) (c k : ℕ) → d.assignment.
 unfolding blocked_by
 nothing_blocked d sch c k e = each_below 32 d.assignment.count (blocks_at d.assignment sch c k) (λ j h. absurd (omega arith))
 
-pub none_misblocked : (d : InputData) (sch state : List ℕ) → Small d → d.assignment.count ≡ 0 → any_to 2048 (block_in state) ≡ false → misblocked_in d sch (state_in state).blocks ≡ false
+pub none_misblocked : (d : InputData) (sch : List ℕ) (blocks : List Bool) → Small d → d.assignment.count ≡ 0 → any_to 2048 (is_blocked blocks) ≡ false → misblocked_in d sch blocks ≡ false
 unfolding misblocked
-none_misblocked d sch state h e p = each_none d.choosers (misblocked_row (blocked_at d sch) d.choices (state_in state).blocks) (λ c x. each_none d.choices (misblocked_at (blocked_at d sch) (state_in state).blocks c)
-    (λ k y. let i = cell_in c k (omega (arith, h.choosers)) (omega (arith, h.choices)) in
-    simp (block_in_lem state (cell c k) i ∙ none_each 2048 (block_in state) p (cell c k) i, nothing_blocked d sch c k e)))
+none_misblocked d sch blocks h e p = each_none d.choosers (misblocked_row (blocked_at d sch) d.choices blocks) (λ c x. each_none d.choices (misblocked_at (blocked_at d sch) blocks c)
+    (λ k y. simp (none_each 2048 (is_blocked blocks) p (cell c k) (cell_in c k (omega (arith, h.choosers)) (omega (arith, h.choices))), nothing_blocked d sch c k e)))
 
 -- tables that do not differ anywhere do not differ within the day
 pub nowhere_unlike : (a b : List Bool) (choosers choices : ℕ) → choosers ≤ 64 → choices ≤ 32 → any_to 2048 (unlike_at a b) ≡ false → misblocked (cells_of b) choosers choices a ≡ false
@@ -182,24 +165,9 @@ nowhere_unlike a b choosers choices hc hk e =
 
 -- ---- carrying a state
 
--- two schedules, by their entries, that name the day's slots alone
-pub record Carriable (l : Limits) (d : InputData) (last next : List ℕ) (size : ℕ) : Type 0 where
+-- two schedules, by their entries, that name the day's slots alone, and the sums of the first
+pub record Carriable (l : Limits) (d : InputData) (last next : List ℕ) (size : ℕ) (s : SlotSums) : Type 0 where
   pub ready : Ready l d size
   pub from : Names d last
   pub to : Names d next
-
-pub carries : {l : Limits} {d : InputData} {last next : List ℕ} {size : ℕ} → Carriable l d last next size → {a c : List ℕ} → SlotSums d.mins last d.choices a c → Carries l.choices d.choices last next d.mins size a c
-carries h p = record {
-  count = choices_most h.ready;
-  room = h.ready.day.choices;
-  from = weighs_of h.ready h.from;
-  to = weighs_of h.ready h.to;
-  from_part = part_of h.ready h.from;
-  to_part = part_of h.ready h.to;
-  lens = p.lens;
-  covered = p.covered;
-}
-
--- what the code puts together is the state of the next schedule
-pub made_state : {stride : ℕ} (d : InputData) {last next : List ℕ} {bytes bytes' a c : List ℕ} → ListsCarried stride d.choices last next d.mins bytes bytes' a c → made_of d next c ≡ state_answer 0 (state_of d next)
-made_state d {next = next} {c = c} p = rw (sums_table (entry_at d.mins) (entry_at next) d.choices c p.covered)
+  pub sums : AreSums (min_at d) (entry_at last) d.choices s

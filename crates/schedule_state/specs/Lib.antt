@@ -3,5 +3,6 @@ pub mod Bytes
 pub mod BytesLaws
 pub mod State
 pub mod Calls
+pub mod Answered
 pub mod Good
 pub mod Numbers

@@ -1,24 +1,30 @@
 -- The number of a call that is handed a state, test after test, as the code comes to it. Assumes nothing.
-use Rattle.std.specs.Prelude.{ℕ, ◌≤◌, ◌≡◌, Bool, true, false, ◌||◌, List, ◌≢◌, length, take}
-use Rattle.std.proofs.Common.{sym, ◌∙◌, arith, eqb-true, eq-eqb}
+use Rattle.std.specs.Prelude.{ℕ, ◌≤◌, ◌≡◌, refl, Bool, true, false, ◌||◌, List, Result, Ok, Err, IsErrAnd, length}
+use Rattle.std.proofs.Common.{sym, ap, ◌∙◌, arith, eqb-true, eq-eqb}
+use Rattle.refusal.specs.Number.{number}
+use Rattle.refusal.specs.declared.Refusal.{Refusal}
+use Rattle.refusal.specs.declared.Refusal.TheVariants.{Schedule, State}
 use Rattle.std.proofs.lemmas.Bool.{not-false}
+use Rattle.std.proofs.lemmas.Result.{err_from_is_err_and}
 use Rattle.counting.specs.Tests.{or_split, bool_cases}
 use Rattle.scheduling.specs.Handed.{outside, kept_of}
-use Rattle.scheduling.specs.Schedule.{bad_slots, kept}
-use Rattle.slot_lists.specs.SumsLaws.{SlotSums}
+use Rattle.scheduling.specs.Schedule.{entry_at}
+use Rattle.slot_lists.specs.SumsLaws.{AreSums}
+use Rattle.slot_lists.specs.declared.SlotSums.{SlotSums}
+use Rattle.input_data.specs.Day.{min_at}
+use Rattle.input_data.specs.ReadLaws.{day_refused, day_passed}
 use Rattle.input_data.specs.Accepted.{Past, accepted, past, first_zero}
 use Rattle.input_data.specs.Bytes.{IsDay, day_of, wider, lent_number}
 use Rattle.input_data.specs.BytesLaws.{lent_number_lem}
 use Rattle.input_data.specs.Checks.{first_of, too_many, day_number}
 use Rattle.input_data.specs.Lengths.{Within, lists_length}
-use Rattle.input_data.specs.Numbers.{number_refused, number_else, first_applies, first_not}
+use Rattle.input_data.specs.Numbers.{first_applies, first_not}
 use Rattle.input_data.specs.declared.Limits.{Limits}
 use Rattle.input_data.specs.declared.InputData.{InputData}
 use Rattle.input_data.specs.declared.checks.Beside.{Beside}
-use Rattle.schedule_state.specs.Bytes.{IsState, not_state, state_in}
-use Rattle.schedule_state.specs.BytesLaws.{schedule_in}
+use Rattle.schedule_state.specs.Bytes.{IsState, not_state}
 use Rattle.schedule_state.specs.Calls.{state_number}
-use Rattle.schedule_state.specs.Good.{Handed, Ready, Found}
+use Rattle.schedule_state.specs.Good.{Handed, Ready, Names, Found, kept_names}
 use Rattle.schedule_state.specs.State.{inconsistent}
 use Rattle.schedule_state.specs.declared.AssignmentScheduleState.{AssignmentScheduleState}
 
@@ -59,43 +65,41 @@ module _ (l : Limits) (d : InputData) (st : AssignmentScheduleState) (b : Beside
         consistent = (first_zero (inconsistent l d st bytes) 12 0 (omega arith) p.1).0;
       }
 
--- the state's schedule, as the code reads it
-module _ (day state : List ℕ) {n : ℕ} (p : n ≡ (day_of day).choices) where
-  pub outside_in : {s : ℕ} {r : Bool} → s ≡ (day_of day).slots → r ≡ bad_slots n s (take 32 state) → r ≡ outside (day_of day) (state_in state).schedule
-  outside_in q t = t ∙ rw (p, q, schedule_in state)
+-- ---- as the code comes to it
 
-  pub kept_in : {r : List ℕ} → r ≡ kept n (take 32 state) → r ≡ kept_of (day_of day) (state_in state).schedule
-  kept_in t = t ∙ rw (p, schedule_in state)
+-- what an early exit gives
+pub err_is : {T : Type 0} (res : Result T Refusal) {r : Refusal} → IsErrAnd res (λ y. y ≡ r) → res ≡ Err r
+err_is res h = let (y, e, f) = err_from_is_err_and res h in e ∙ ap Err f
 
--- the day is accepted, and no schedule names a slot that it has not
-pub record Passed (l : Limits) (d : InputData) (st : List ℕ) (size : ℕ) : Type 0 where
+-- the day is accepted, and its state's schedule names the day's slots alone
+pub record Passed (l : Limits) (d : InputData) (st : AssignmentScheduleState) (size : ℕ) : Type 0 where
   pub ready : Ready l d size
-  pub is_state : IsState st
-  pub inside : outside d (state_in st).schedule ≡ false
+  pub names : Names d (kept_of d st.schedule)
 
-module _ (l : Limits) (d : InputData) (st : List ℕ) (b : Beside) (also : Bool) (bytes : List ℕ) {n : ℕ} (p : n ≡ day_number l d b 0) where
-  pub passed : {o : Bool} → Handed l b st (length bytes) → n ≡ 0 → o ≡ outside d (state_in st).schedule → (also || o) ≡ false → Passed l d st (length bytes)
-  passed {o = o} h e q t =
-      let z : day_number l d b 0 ≡ 0 = sym p ∙ e in
-      let s : (also ≡ false) × (o ≡ false) = or_split t in
-      record {
-        ready = record { within = h.within; day = accepted l d b 0 h.within z; room = h.room (past l d b 0 z).lengths };
-        is_state = h.state (past l d b 0 z).lengths;
-        inside = sym q ∙ s.1;
-      }
+module _ (l : Limits) (d : InputData) (b : Beside) (p : 0 ≡ day_number l d b 0) {state : List ℕ} {size : ℕ} (h : Handed l b state size) where
+  pub handed_state : IsState state
+  handed_state = h.state (past l d b 0 (sym p)).lengths
 
-  pub handed_state : Handed l b st (length bytes) → n ≡ 0 → IsState st
-  handed_state h e = h.state (past l d b 0 (sym p ∙ e)).lengths
+  pub passed : (st : AssignmentScheduleState) (also : Bool) → (also || outside d st.schedule) ≡ false → Passed l d st size
+  passed st also t =
+      let s : (also ≡ false) × (outside d st.schedule ≡ false) = or_split t in
+      let r : Ready l d size = record { within = h.within; day = accepted l d b 0 h.within (sym p); room = h.room (past l d b 0 (sym p)).lengths } in
+      record { ready = r; names = kept_names r st.schedule s.1 }
 
-  pub found_day : {a c : List ℕ} → n ≢ 0 → Found l d (state_in st) b also bytes a c n
+module _ (l : Limits) (d : InputData) (st : AssignmentScheduleState) (b : Beside) (also : Bool) (bytes : List ℕ) where
+  pub found_day : (res : Result SlotSums Refusal) (r : Refusal) → IsErrAnd res (λ y. y ≡ r) → number r ≡ day_number l d b 0 → Found l d st b also bytes res
   unfolding state_number
-  found_day d' = record { number = number_refused l d b _ p d'; sums = λ z. absurd (d' z) }
+  found_day res r h p = rw (err_is res h) (record { number = day_refused l d b _ r p; sums = tt })
 
-  pub found_11 : {o : Bool} {a c : List ℕ} → n ≡ 0 → o ≡ outside d (state_in st).schedule → (also || o) ≡ true → Found l d (state_in st) b also bytes a c 11
-  unfolding state_number
-  found_11 e q t = record { number = number_else l d b _ p e (first_applies _ 11 _ (rw q at t)); sums = λ z. absurd (omega arith) }
+  module _ (p : 0 ≡ day_number l d b 0) where
+    pub found_11 : (also || outside d st.schedule) ≡ true → Found l d st b also bytes (Err Schedule)
+    unfolding state_number
+    found_11 t = record { number = day_passed l d b _ p (first_applies _ 11 _ t); sums = tt }
 
-  pub found_12 : {o bad : Bool} {a c : List ℕ} {r : ℕ} → n ≡ 0 → o ≡ outside d (state_in st).schedule → (also || o) ≡ false → bad ≡ inconsistent l d (state_in st) bytes → r ≡ first_of bad 12 0
-      → SlotSums d.mins (kept_of d (state_in st).schedule) d.choices a c → Found l d (state_in st) b also bytes a c r
-  unfolding state_number
-  found_12 e q t u v s = record { number = number_else l d b _ p e (first_not _ 11 _ (rw q at t) (rw u at v)); sums = λ z. s }
+    pub found_12 : (also || outside d st.schedule) ≡ false → inconsistent l d st bytes ≡ true → Found l d st b also bytes (Err State)
+    unfolding state_number
+    found_12 t e = record { number = day_passed l d b _ p (first_not _ 11 _ t (first_applies _ 12 _ e)); sums = tt }
+
+    pub found_none : (also || outside d st.schedule) ≡ false → inconsistent l d st bytes ≡ false → {s : SlotSums} → AreSums (min_at d) (entry_at (kept_of d st.schedule)) d.choices s → Found l d st b also bytes (Ok s)
+    unfolding state_number
+    found_none t e q = record { number = day_passed l d b _ p (first_not _ 11 _ t (first_not _ 12 _ e refl)); sums = q }

@@ -47,6 +47,10 @@ miscounted d sch covered = miscounted_in (covered_at d sch) d.slots covered
 abbrev pub unlike : Bool → Bool → Bool
 unlike a b = (a && not b) || (not a && b)
 
+-- place p of a table is blocked
+abbrev pub is_blocked : List Bool → ℕ → Bool
+is_blocked b p = get_or b p false
+
 -- two tables differ at place p
 abbrev pub unlike_at : List Bool → List Bool → ℕ → Bool
 unlike_at a b p = unlike (get_or a p false) (get_or b p false)

@@ -1,8 +1,17 @@
 // The list of a slot, as a part of the lent buffer.
-ghost use Rattle.std.specs.Prelude.{◌+◌, ◌*◌, ◌≤◌, length, take, drop};
-ghost use Rattle.schedule_state.specs.Calls.{PartOf};
+ghost use Rattle.std.specs.Prelude.{◌≡◌};
+ghost use Rattle.schedule_state.specs.Answered.{list_answered};
 
-// A slot's list: the number, where the list starts in the lent buffer, and its length; zeros where the call is refused.
+use refusal::Refusal;
+
+// Where a slot's list stands in the lent buffer.
+#[derive(Clone, Copy)]
+pub struct SlotListPart {
+    pub start: usize,
+    pub length: usize,
+}
+
+// What C is given of it: the number, where the list starts, and its length; zeros where the call is refused.
 #[repr(C)]
 #[derive(Clone, Copy)]
 pub struct SlotListAnswer {
@@ -11,11 +20,21 @@ pub struct SlotListAnswer {
     pub length: usize,
 }
 
-// The first `len` bytes of a slot's part of the buffer: its list. The model is built and decoded from these.
-pub fn list_front<'a>(lists: &'a [u8], stride: usize, slot: usize, len: usize) -> &'a [u8]
-    requires { (len ≤ stride) × (stride * slot + stride ≤ length lists.now) }
-    ensures { PartOf lists.entry (stride * slot) (take len (drop (stride * slot) lists.now)) result }
-{
-    let start = stride * slot;
-    &lists[start..start + len]
+impl From<Result<SlotListPart, Refusal>> for SlotListAnswer {
+    ghost from_gives = { λ r a. a ≡ list_answered r };
+
+    fn from(res: Result<SlotListPart, Refusal>) -> SlotListAnswer {
+        match res {
+            Ok(part) => SlotListAnswer {
+                number: 0,
+                start: part.start,
+                length: part.length,
+            },
+            Err(refusal) => SlotListAnswer {
+                number: u32::from(refusal),
+                start: 0,
+                length: 0,
+            },
+        }
+    }
 }

@@ -1,36 +1,47 @@
 -- The numbers of build, update and slot list, as the code comes to them, and what these calls leave. Assumes nothing.
-use Rattle.std.specs.Prelude.{ℕ, ◌+◌, ◌<◌, ◌≤◌, ◌≡◌, refl, Bool, ◌||◌, List, ◌≢◌, eqb, ltb, leb, length, take, replicate}
+use Rattle.std.specs.Prelude.{ℕ, ◌+◌, ◌*◌, ◌<◌, ◌≤◌, ◌≡◌, refl, Bool, ◌||◌, List, Result, Ok, Err, IsErrAnd, eqb, ltb, leb, length, get_or, replicate}
+use Rattle.std.specs.Borrow.{Bor}
 use Rattle.std.proofs.Common.{zero-le, sym, ap, ◌∙◌, le_antisymm, arith, ltb-false, leb-false, eq-eqb, ne_eqb}
 use Rattle.std.proofs.Math.Path.{fun_ext}
 use Rattle.std.proofs.Math.Bool.{false}
 use Rattle.std.proofs.lemmas.List.{get_or-replicate}
 use Rattle.std.proofs.Math.ListN.{get_or-eq_default}
+use Rattle.refusal.specs.Number.{number}
+use Rattle.refusal.specs.Laws.{some_number}
+use Rattle.refusal.specs.declared.Refusal.{Refusal}
 use Rattle.counting.specs.Sums.{count_le}
 use Rattle.counting.specs.Tests.{or_split, eq_cases, lt_cases}
 use Rattle.scheduling.specs.Handed.{schedule_of, not_schedule, outside, kept_of}
 use Rattle.scheduling.specs.HandedLaws.{schedule_long}
 use Rattle.scheduling.specs.Schedule.{entry_at, kept}
 use Rattle.scheduling.specs.declared.Scheduling.{Scheduling}
-use Rattle.slot_lists.specs.SumsLaws.{SlotSums, unweighed_nowhere}
-use Rattle.slot_lists.specs.Sums.{in_slot, nowhere}
-use Rattle.slot_lists.specs.WalkLaws.{Carries, ListsCarried}
+use Rattle.slot_lists.specs.SumsLaws.{AreSums, sums_table, nowhere_summed}
+use Rattle.slot_lists.specs.Sums.{in_slot, nowhere, no_sums}
+use Rattle.slot_lists.specs.WalkLaws.{ListsCarried}
 use Rattle.slot_lists.specs.Walk.{carried}
+use Rattle.slot_lists.specs.declared.SlotSums.{SlotSums}
+use Rattle.blocks.specs.BlocksLaws.{Blocks, blocks_table}
 use Rattle.input_data.specs.Accepted.{accepted, past, first_zero}
 use Rattle.input_data.specs.Bytes.{IsDay, day_of, wider, lent_number}
-use Rattle.input_data.specs.BytesLaws.{Lent, lent_zero}
+use Rattle.input_data.specs.BytesLaws.{Lent, lent_zero, lent_short}
 use Rattle.input_data.specs.Checks.{first_of, day_number}
+use Rattle.input_data.specs.Day.{min_at}
 use Rattle.input_data.specs.Lengths.{Within, lists_length}
+use Rattle.input_data.specs.Read.{day_read}
+use Rattle.input_data.specs.ReadLaws.{read_ok, read_err}
 use Rattle.input_data.specs.declared.Limits.{Limits}
 use Rattle.input_data.specs.declared.InputData.{InputData}
 use Rattle.input_data.specs.declared.checks.Beside.{Beside}
+use Rattle.schedule_state.specs.Answered.{state_answered, list_answered}
 use Rattle.schedule_state.specs.Bytes.{IsState, not_state, state_in}
-use Rattle.schedule_state.specs.Calls.{beside_lists, build_number, update_number, state_number, slot_list_number, state_answer, state_refused, Leaves, names_outside, made_of, build_lent, update_lent, Built, Updated, slot_list_lent, list_refused, list_found, slot_list_answer}
-use Rattle.schedule_state.specs.Good.{Handed, Ready, Carriable, kept_names, part_in, carries, made_state}
-use Rattle.schedule_state.specs.State.{inconsistent}
+use Rattle.schedule_state.specs.Calls.{beside_lists, build_number, update_number, state_number, slot_list_number, state_answer, Leaves, names_outside, build_lent, update_lent, Built, Updated, slot_list_lent, slot_list_answer}
+use Rattle.schedule_state.specs.Good.{Handed, Ready, Carriable, kept_names, part_in, slots_most}
+use Rattle.schedule_state.specs.Numbers.{err_is, lent_rest, state_long, state_accepted}
+use Rattle.schedule_state.specs.State.{inconsistent, blocked_at}
 use Rattle.schedule_state.specs.declared.AssignmentScheduleState.{AssignmentScheduleState}
-use Rattle.schedule_state.specs.declared.StateAnswer.{StateAnswer}
-use Rattle.schedule_updates.specs.Carrying.{Summed, StateCarried}
-use Rattle.schedule_state.specs.Numbers.{kept_in, lent_rest, state_long, state_accepted}
+use Rattle.schedule_state.specs.declared.listing.SlotListPart.{SlotListPart}
+use Rattle.schedule_updates.specs.Carrying.{build_tested, update_tested, StateCarried}
+use Rattle.schedule_updates.specs.Listing.{list_beside, list_tested, ListFound, Listed}
 
 -- ---- a call that is lent bytes
 
@@ -55,22 +66,27 @@ unfolding state_number
 state_lent l day wrong also also' b st bytes h e =
     lent_rest l day wrong b _ _ h (λ w. ap (λ (t : Bool). first_of (t || outside (day_of day) st.schedule) 11 (first_of (inconsistent l (day_of day) st bytes) 12 0)) (e w))
 
-pub build_lent_lem : (l : Limits) (day sch : List ℕ) (size : ℕ) → IsDay day → {b : Beside} {o : Bool} {m n : ℕ} → b ≡ wider (not_schedule sch) (beside_lists l size false) → o ≡ names_outside (day_of day) sch
-    → m ≡ first_of o 11 0 → n ≡ day_number l (day_of day) b m → n ≡ build_lent l day sch size
-unfolding build_number
-build_lent_lem l day sch size h p q t e =
-    (rw (t, q, p) at e) ∙ lent_rest l day (not_schedule sch) (beside_lists l size false) _ _ h (λ w. ap (λ (x : Bool). first_of x 11 0) (names_lent (day_of day) sch w))
+-- .. of a day that is read, and of one that is not
+pub unread : (l : Limits) (day : List ℕ) (wrong : Bool) (n : ℕ) {r : Refusal} → Err r ≡ day_read day → number r ≡ lent_number l day wrong n
+unread l day wrong n e = let p = read_err day e in p.1 ∙ lent_short l day wrong n p.0
 
-pub update_lent_lem : (l : Limits) (day st sch bytes : List ℕ) → IsDay day → {b : Beside} {o : Bool} {n : ℕ} → b ≡ wider (not_state st || not_schedule sch) (beside_lists l (length bytes) false) → o ≡ names_outside (day_of day) sch
-    → n ≡ state_number l (day_of day) (state_in st) b o bytes → n ≡ update_lent l day st sch bytes
-update_lent_lem l day st sch bytes h p q e =
-    (rw (p, q) at e) ∙ state_lent l day (not_state st || not_schedule sch) (outside (day_of day) (schedule_of sch)) (names_outside (day_of day) sch) (beside_lists l (length bytes) false) (state_in st) bytes h
-    (λ w. let p : (not_state st ≡ false) × (not_schedule sch ≡ false) = or_split w in names_lent (day_of day) sch p.1)
+module _ (l : Limits) (day : List ℕ) {d : InputData} (r : Ok d ≡ day_read day) where
+  pub build_is : (sch : List ℕ) (size : ℕ) → build_tested l d sch size ≡ build_lent l day sch size
+  unfolding build_number
+  build_is sch size =
+      let (h, e) = read_ok day r in
+      rw e (lent_rest l day (not_schedule sch) (beside_lists l size false) _ _ h (λ w. ap (λ (x : Bool). first_of x 11 0) (names_lent (day_of day) sch w)))
 
-pub list_lent : (l : Limits) (day st : List ℕ) (slot : ℕ) (bytes : List ℕ) → IsDay day → {b : Beside} {s n : ℕ} → b ≡ wider (not_state st) (beside_lists l (length bytes) (leb s slot)) → s ≡ (day_of day).slots
-    → n ≡ state_number l (day_of day) (state_in st) b false bytes → n ≡ slot_list_lent l day st slot bytes
-list_lent l day st slot bytes h p q e =
-    (rw (p, q) at e) ∙ state_lent l day (not_state st) false false (beside_lists l (length bytes) (leb (day_of day).slots slot)) (state_in st) bytes h (λ w. refl)
+  pub update_is : (st sch bytes : List ℕ) → update_tested l d st sch bytes ≡ update_lent l day st sch bytes
+  update_is st sch bytes =
+      let (h, e) = read_ok day r in
+      rw e (state_lent l day (not_state st || not_schedule sch) _ _ (beside_lists l (length bytes) false) (state_in st) bytes h
+      (λ w. let p : (not_state st ≡ false) × (not_schedule sch ≡ false) = or_split w in names_lent (day_of day) sch p.1))
+
+  pub list_is : (st : List ℕ) (slot : ℕ) (bytes : List ℕ) → list_tested l d st slot bytes ≡ slot_list_lent l day st slot bytes
+  list_is st slot bytes =
+      let (h, e) = read_ok day r in
+      rw e (state_lent l day (not_state st) false false (beside_lists l (length bytes) (leb (day_of day).slots slot)) (state_in st) bytes h (λ w. refl))
 
 -- a day whose number is 0 is ready, with its buffer
 pub ready_of : (l : Limits) (d : InputData) (size : ℕ) (asked : Bool) (rest : ℕ) → Within l → day_number l d (beside_lists l size asked) rest ≡ 0 → Ready l d size
@@ -115,13 +131,21 @@ slot_list_accepted l d st slot bytes w e =
 
 -- ---- what a call leaves
 
-pub leaves_refused : {n : ℕ} {st : AssignmentScheduleState} {made before : List ℕ} {r : StateAnswer} (m : ℕ) → m ≡ n → m ≢ 0 → r ≡ state_refused m → Leaves n st made before before r
-leaves_refused {n = n} m e d p =
-    let f : eqb n 0 ≡ false = ne_eqb n 0 (λ z. d (e ∙ z)) in
-    record { gives = p ∙ rw (f, e); leaves = rw f }
+pub leaves_refused : {n : ℕ} {st : AssignmentScheduleState} {made before : List ℕ} (res : Result AssignmentScheduleState Refusal) (r : Refusal) → IsErrAnd res (λ y. y ≡ r) → number r ≡ n → Leaves n st made before before (state_answered res)
+leaves_refused {n = n} res r h e =
+    let f : eqb n 0 ≡ false = ne_eqb n 0 (λ z. some_number r (e ∙ z)) in
+    rw (err_is res h) (record { gives = rw (f, e); leaves = rw f })
 
-pub leaves_done : {n : ℕ} {st : AssignmentScheduleState} {made before after : List ℕ} {r : StateAnswer} → n ≡ 0 → r ≡ state_answer 0 st → after ≡ made → Leaves n st made before after r
-leaves_done e p q = record { gives = p ∙ rw e; leaves = q ∙ rw e }
+leaves_done : {n : ℕ} {st st' : AssignmentScheduleState} {made before after : List ℕ} → 0 ≡ n → st' ≡ st → after ≡ made → Leaves n st made before after (state_answered (Ok st'))
+leaves_done e p q = rw (← e) (record { gives = ap (state_answer 0) p; leaves = q })
+
+-- what the code carries is the state of the next schedule
+pub carried_state : (l : Limits) (d : InputData) {last next before after : List ℕ} {s : SlotSums} {blocks : List Bool} → ListsCarried l.choices d.choices last next d.mins before after s → Blocks (blocked_at d next) blocks
+    → StateCarried l d last next before after (record { schedule = record { entries = next }; covered = s.covered; blocks = blocks })
+carried_state l d {next = next} {s = s} {blocks = blocks} h b = record {
+  gives = rw (sums_table (min_at d) (entry_at next) d.choices s.covered h.sums.covered, blocks_table (blocked_at d next) blocks b);
+  leaves = h.lists;
+}
 
 -- ---- a build
 
@@ -132,83 +156,90 @@ none_fits k n = lt_cases k 32 (λ h e. omega (arith, get_or-replicate {A = ℕ} 
 none_nowhere : entry_at (replicate 32 0) ≡ nowhere
 none_nowhere = fun_ext (λ k. le_antisymm (none_fits k 0) zero-le)
 
--- what carrying asks and does, as the code comes to it
-pub carry_of : {l : Limits} {d : InputData} {last next mins lens covered : List ℕ} {size k : ℕ} → k ≡ d.choices → Carriable l d last next size → Summed d last mins lens covered → Carries l.choices k last next mins size lens covered
-carry_of p h s = rw (p, s.mins_are) (carries h s.sums)
-
-pub carried_of : (l : Limits) (d : InputData) {last next mins bytes bytes' a c : List ℕ} {k : ℕ} {r : StateAnswer} → k ≡ d.choices → mins ≡ d.mins
-    → ListsCarried l.choices k last next mins bytes bytes' a c → r ≡ made_of d next c → StateCarried l d last next bytes bytes' r
-carried_of l d p q h e = let z = rw (p, q) at h in record { gives = e ∙ made_state d z; leaves = z.lists }
-
-module _ (l : Limits) (day sch : List ℕ) (size : ℕ) (w : Within l) {n : ℕ} (p : n ≡ build_lent l day sch size) (e : n ≡ 0) where
+module _ (l : Limits) (day sch : List ℕ) (size : ℕ) (w : Within l) {d : InputData} (r : Ok d ≡ day_read day) (p : 0 ≡ build_tested l d sch size) where
   -- a build that is accepted
   build_zero : Lent day (not_schedule sch) (build_number l (day_of day) (schedule_of sch) size)
-  build_zero = lent_zero l day (not_schedule sch) (build_number l (day_of day) (schedule_of sch) size) (sym p ∙ e)
+  build_zero = lent_zero l day (not_schedule sch) (build_number l (day_of day) (schedule_of sch) size) (sym (p ∙ build_is l day r sch size))
 
   pub build_long : length sch ≡ 32
   build_long = schedule_long sch build_zero.right
 
-  pub build_carriable : {k : ℕ} {first : List ℕ} → k ≡ (day_of day).choices → first ≡ kept k sch → Carriable l (day_of day) (replicate 32 0) first size
-  build_carriable q t =
-      let r = build_ready l (day_of day) (schedule_of sch) size w build_zero.zero in
-      record { ready = r; from = record { fits = λ k b. none_fits k (day_of day).slots }; to = rw (t, q) (kept_names r (schedule_of sch) (build_inside l (day_of day) (schedule_of sch) size w build_zero.zero)) }
+  pub build_carriable : {first : List ℕ} {s : SlotSums} → first ≡ kept d.choices sch → s ≡ no_sums → Carriable l d (replicate 32 0) first size s
+  build_carriable t q =
+      let z : build_number l d (schedule_of sch) size ≡ 0 = rw (← (read_ok day r).1) at build_zero.zero in
+      let a = build_ready l d (schedule_of sch) size w z in
+      rw (t, q) (record {
+        ready = a;
+        from = record { fits = λ k b. none_fits k d.slots };
+        to = kept_names a (schedule_of sch) (build_inside l d (schedule_of sch) size w z);
+        sums = rw none_nowhere (nowhere_summed (min_at d) d.choices);
+      })
 
-pub build_summed : {d : InputData} {mins : List ℕ} → mins ≡ d.mins → Summed d (replicate 32 0) mins (replicate 8 0) (replicate 8 0)
-build_summed {d = d} q = record { mins_are = q; sums = unweighed_nowhere d.mins (replicate 32 0) d.choices none_nowhere (record { lens = refl; covered = refl }) }
-
-pub built_leaves : (l : Limits) (day sch : List ℕ) {n k : ℕ} {first bytes bytes' : List ℕ} {r : StateAnswer} → n ≡ build_lent l day sch (length bytes) → n ≡ 0 → k ≡ (day_of day).choices → first ≡ kept k sch
-    → StateCarried l (day_of day) (replicate 32 0) first bytes bytes' r → Built l day sch bytes bytes' r
-built_leaves l day sch {bytes = bytes} p e q t h =
-    let z : StateCarried l (day_of day) (replicate 32 0) (kept_of (day_of day) (schedule_of sch)) bytes _ _ = rw (t, q) at h in
-    leaves_done (sym p ∙ e) z.gives (z.leaves ∙ ap (λ f. carried l.choices f (entry_at (kept_of (day_of day) (schedule_of sch))) (day_of day).choices bytes (day_of day).choices) none_nowhere)
+pub built_leaves : (l : Limits) (day sch : List ℕ) {d : InputData} {first bytes bytes' : List ℕ} {st : AssignmentScheduleState} → Ok d ≡ day_read day → 0 ≡ build_tested l d sch (length bytes) → first ≡ kept d.choices sch
+    → StateCarried l d (replicate 32 0) first bytes bytes' st → Built l day sch bytes bytes' (state_answered (Ok st))
+built_leaves l day sch {bytes = bytes} r p t h =
+    let z : StateCarried l (day_of day) (replicate 32 0) (kept_of (day_of day) (schedule_of sch)) bytes _ _ = rw (t, (read_ok day r).1) at h in
+    leaves_done (p ∙ build_is l day r sch (length bytes)) z.gives
+    (z.leaves ∙ ap (λ f. carried l.choices f (entry_at (kept_of (day_of day) (schedule_of sch))) (day_of day).choices bytes (day_of day).choices) none_nowhere)
 
 -- ---- an update
 
-module _ (l : Limits) (day st sch bytes : List ℕ) (w : Within l) {n : ℕ} (p : n ≡ update_lent l day st sch bytes) (e : n ≡ 0) where
+module _ (l : Limits) (day st sch bytes : List ℕ) (w : Within l) {d : InputData} (r : Ok d ≡ day_read day) (p : 0 ≡ update_tested l d st sch bytes) where
   update_zero : Lent day (not_state st || not_schedule sch) (update_number l (day_of day) (state_in st) (schedule_of sch) bytes)
-  update_zero = lent_zero l day (not_state st || not_schedule sch) (update_number l (day_of day) (state_in st) (schedule_of sch) bytes) (sym p ∙ e)
+  update_zero = lent_zero l day (not_state st || not_schedule sch) (update_number l (day_of day) (state_in st) (schedule_of sch) bytes) (sym (p ∙ update_is l day r st sch bytes))
 
   -- what was lent has its length
   pub update_long : IsState st × (length sch ≡ 32)
   update_long = both_long st sch update_zero.right
 
-  pub update_carriable : {k : ℕ} {last next : List ℕ} → k ≡ (day_of day).choices → last ≡ kept k (take 32 st) → next ≡ kept k sch → Carriable l (day_of day) last next (length bytes)
-  update_carriable q s t =
-      let u = update_accepted l (day_of day) (state_in st) (schedule_of sch) bytes w update_zero.zero in
-      record { ready = u.ready; from = rw (kept_in day st q s) (kept_names u.ready (state_in st).schedule u.from); to = rw (t, q) (kept_names u.ready (schedule_of sch) u.to) }
+  pub update_carriable : {last next : List ℕ} {s : SlotSums} → last ≡ kept_of d (state_in st).schedule → next ≡ kept d.choices sch → AreSums (min_at d) (entry_at (kept_of d (state_in st).schedule)) d.choices s → Carriable l d last next (length bytes) s
+  update_carriable t q h =
+      let z : update_number l d (state_in st) (schedule_of sch) bytes ≡ 0 = rw (← (read_ok day r).1) at update_zero.zero in
+      let u = update_accepted l d (state_in st) (schedule_of sch) bytes w z in
+      rw (t, q) (record { ready = u.ready; from = kept_names u.ready (state_in st).schedule u.from; to = kept_names u.ready (schedule_of sch) u.to; sums = h })
 
-pub update_summed : (day st : List ℕ) {k : ℕ} {last mins lens covered : List ℕ} → k ≡ (day_of day).choices → last ≡ kept k (take 32 st) → mins ≡ (day_of day).mins
-    → SlotSums (day_of day).mins (kept_of (day_of day) (state_in st).schedule) (day_of day).choices lens covered → Summed (day_of day) last mins lens covered
-update_summed day st q s t h = record { mins_are = t; sums = rw (kept_in day st q s) h }
-
-pub updated_leaves : (l : Limits) (day st sch : List ℕ) {n k : ℕ} {last next bytes bytes' : List ℕ} {r : StateAnswer} → n ≡ update_lent l day st sch bytes → n ≡ 0
-    → k ≡ (day_of day).choices → last ≡ kept k (take 32 st) → next ≡ kept k sch → StateCarried l (day_of day) last next bytes bytes' r → Updated l day st sch bytes bytes' r
-updated_leaves l day st sch {bytes = bytes} p e q s t h =
-    let z : StateCarried l (day_of day) (kept_of (day_of day) (state_in st).schedule) (kept_of (day_of day) (schedule_of sch)) bytes _ _ = rw (kept_in day st q s, t, q) at h in
-    leaves_done (sym p ∙ e) z.gives z.leaves
+  pub updated_leaves : {last next bytes' : List ℕ} {st' : AssignmentScheduleState} → last ≡ kept_of d (state_in st).schedule → next ≡ kept d.choices sch
+      → StateCarried l d last next bytes bytes' st' → Updated l day st sch bytes bytes' (state_answered (Ok st'))
+  updated_leaves t q h =
+      let z : StateCarried l (day_of day) (kept_of (day_of day) (state_in st).schedule) (kept_of (day_of day) (schedule_of sch)) bytes _ _ = rw (t, q, (read_ok day r).1) at h in
+      leaves_done (p ∙ update_is l day r st sch bytes) z.gives z.leaves
 
 -- ---- a slot's list
 
-module _ (l : Limits) (day st : List ℕ) (slot : ℕ) (bytes : List ℕ) where
-  pub list_refused_lem : (n : ℕ) → n ≡ slot_list_lent l day st slot bytes → n ≢ 0 → list_refused n ≡ slot_list_answer l day st slot bytes
-  unfolding slot_list_answer
-  list_refused_lem n e f = rw (ne_eqb (slot_list_lent l day st slot bytes) 0 (λ z. f (e ∙ z)), e)
+-- a call that is accepted asks about one of 8 slots
+pub slot_few : (l : Limits) (d : InputData) (st : List ℕ) (slot : ℕ) (bytes : List ℕ) → Within l → 0 ≡ list_tested l d st slot bytes → slot < 8
+slot_few l d st slot bytes w e =
+    let a = state_accepted l d (state_in st) (list_beside l d st slot bytes) false bytes w (handed_lists l st (length bytes) (not_state st) (leb d.slots slot) w (state_long st)).room (sym e) in
+    omega (arith, leb-false d.slots slot a.past.asked, slots_most a.ready)
 
-  pub list_found_lem : slot_list_lent l day st slot bytes ≡ 0 → list_found l (day_of day) (state_in st) slot ≡ slot_list_answer l day st slot bytes
+module _ (l : Limits) (day st : List ℕ) (slot : ℕ) (bytes : List ℕ) where
+  pub list_refuses : (res : Result SlotListPart Refusal) (r : Refusal) → IsErrAnd res (λ y. y ≡ r) → number r ≡ slot_list_lent l day st slot bytes → list_answered res ≡ slot_list_answer l day st slot bytes
   unfolding slot_list_answer
-  list_found_lem e = rw (eq-eqb (slot_list_lent l day st slot bytes) 0 e)
+  list_refuses res r h e = rw (err_is res h, ne_eqb (slot_list_lent l day st slot bytes) 0 (λ z. some_number r (e ∙ z)), e)
 
   pub list_number_lem : (slot_list_answer l day st slot bytes).number ≡ slot_list_lent l day st slot bytes
   unfolding slot_list_answer
   list_number_lem = eq_cases (slot_list_lent l day st slot bytes) 0 (λ e t. rw t (sym e)) (λ e t. rw t)
 
-  pub list_accepted : Within l → slot_list_lent l day st slot bytes ≡ 0 → SlotListAccepted l (day_of day) (state_in st) slot bytes
-  list_accepted w e = slot_list_accepted l (day_of day) (state_in st) slot bytes w (lent_zero l day (not_state st) (slot_list_number l (day_of day) (state_in st) slot bytes) e).zero
+  pub listed_refuses : {x : Bor (List ℕ)} (res : Result (Bor (List ℕ)) Refusal) (r : Refusal) → IsErrAnd res (λ y. y ≡ r) → x.now ≡ bytes → list_answered (Err r) ≡ slot_list_answer l day st slot bytes → Listed l day st slot x res
+  listed_refuses res r h t e = rw (err_is res h) (record { number = rw t (ap (λ a. a.number) e ∙ list_number_lem); part = tt })
 
-  -- the list that is found is within its part of the buffer
-  pub list_inside : Within l → (slot_list_answer l day st slot bytes).start + (slot_list_answer l day st slot bytes).length ≤ length bytes
-  unfolding slot_list_answer
-  list_inside w = eq_cases (slot_list_lent l day st slot bytes) 0
-      (λ e t. let a = list_accepted w e in
-      rw t (omega (arith, part_in a.ready slot a.slot, a.ready.day.choices, count_le (day_of day).choices (in_slot (entry_at (kept_of (day_of day) (state_in st).schedule)) slot))))
-      (λ e t. rw t (omega arith))
+  module _ (w : Within l) where
+    pub list_accepted : slot_list_lent l day st slot bytes ≡ 0 → SlotListAccepted l (day_of day) (state_in st) slot bytes
+    list_accepted e = slot_list_accepted l (day_of day) (state_in st) slot bytes w (lent_zero l day (not_state st) (slot_list_number l (day_of day) (state_in st) slot bytes) e).zero
+
+    -- what is found is the list
+    pub list_finds : {d : InputData} {s : SlotSums} → Ok d ≡ day_read day → ListFound l d st slot bytes (Ok s)
+        → list_answered (Ok (record { start = l.choices * slot; length = get_or s.lens slot 0 })) ≡ slot_list_answer l day st slot bytes
+    unfolding slot_list_answer
+    list_finds {d = d} r f =
+        let e = f.number ∙ list_is l day r st slot bytes in
+        rw (eq-eqb (slot_list_lent l day st slot bytes) 0 (sym e), ← (read_ok day r).1) (ap (λ n. list_answered (Ok (record { start = l.choices * slot; length = n }))) (f.sums.lens.at slot (slot_few l d st slot bytes w f.number)))
+
+    -- .. and within its part of the buffer
+    pub list_inside : (slot_list_answer l day st slot bytes).start + (slot_list_answer l day st slot bytes).length ≤ length bytes
+    unfolding slot_list_answer
+    list_inside = eq_cases (slot_list_lent l day st slot bytes) 0
+        (λ e t. let a = list_accepted e in
+        rw t (omega (arith, part_in a.ready slot a.slot, a.ready.day.choices, count_le (day_of day).choices (in_slot (entry_at (kept_of (day_of day) (state_in st).schedule)) slot))))
+        (λ e t. rw t (omega arith))

@@ -4,5 +4,5 @@
 mod listing;
 mod state;
 
-pub use listing::{slot_list, slot_list_answer, slot_list_number};
+pub use listing::{slot_list, slot_list_part};
 pub use state::{build, update};

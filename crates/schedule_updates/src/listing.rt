@@ -1,80 +1,71 @@
 // The list of a slot, as a part of the lent buffer.
 ghost use Rattle.std.specs.Prelude.{◌≡◌};
 ghost use Rattle.input_data.specs.Lengths.{Within, full_day};
-ghost use Rattle.schedule_state.specs.Calls.{list_refused, slot_list_lent, slot_list_answer, HandsBack};
+ghost use Rattle.schedule_state.specs.Answered.{list_answered};
+ghost use Rattle.schedule_state.specs.Calls.{slot_list_answer};
+ghost use Rattle.schedule_updates.specs.Listing.{ListFound, Listed};
 
-use input_data::Limits;
-use schedule_state::{SlotListAnswer, beside, test_state};
+use input_data::{Day, Limits};
+use refusal::Refusal;
+use schedule_state::{SlotListPart, beside, check_state};
+use slot_lists::SlotSums;
 
-fn refuse(number: u32) -> SlotListAnswer
-    ensures { result ≡ list_refused number }
+// Checks 1 to 12. The sums of the state's schedule, where none applies.
+fn check_list(
+    limits: Limits,
+    day: &Day,
+    state: &[u8],
+    lists: &[u8],
+    slot: usize,
+) -> Result<SlotSums, Refusal>
+    requires { Within limits }
+    ensures { ListFound limits day.now state.now slot lists.now result }
 {
-    SlotListAnswer {
-        number,
-        start: 0,
-        length: 0,
-    }
+    let asked = day.slots() <= slot;
+    let tested = beside(limits, state.len() != 2112, lists.len(), asked);
+    check_state(limits, day, state, tested, false, lists)
 }
 
-fn answer_within(
+#[tactic(auto, using(crate::specs::Numbers::slot_few))]
+fn part_within(
     limits: Limits,
     day: &[u8],
     state: &[u8],
     lists: &[u8],
     slot: usize,
-) -> SlotListAnswer
+) -> Result<SlotListPart, Refusal>
     requires { Within limits }
-    ensures { result ≡ slot_list_answer limits day.now state.now slot lists.now }
+    ensures { list_answered result ≡ slot_list_answer limits day.now state.now slot lists.now }
 {
-    if day.len() != 2044 {
-        return refuse(2);
-    }
-    let tested = beside(
-        limits,
-        state.len() != 2112,
-        lists.len(),
-        input_data::slots(day) <= slot,
-    );
-    let mut lens = [0u32; 8];
-    let mut covered = [0u32; 8];
-    let number = test_state(
-        limits,
-        day,
-        state,
-        tested,
-        false,
-        lists,
-        &mut lens,
-        &mut covered,
-    );
-    if number != 0 {
-        return refuse(number);
-    }
-    SlotListAnswer {
-        number: 0,
+    let day = Day::read(day)?;
+    let sums = check_list(limits, &day, state, lists, slot)?;
+    Ok(SlotListPart {
         start: limits.choices * slot,
-        length: lens[slot] as usize,
-    }
+        length: sums.lens[slot] as usize,
+    })
 }
 
 // Where a slot's list stands in the caller's buffer.
-pub fn slot_list_answer(day: &[u8], state: &[u8], lists: &[u8], slot: usize) -> SlotListAnswer
-    ensures { result ≡ slot_list_answer full_day day.now state.now slot lists.now }
+pub fn slot_list_part(
+    day: &[u8],
+    state: &[u8],
+    lists: &[u8],
+    slot: usize,
+) -> Result<SlotListPart, Refusal>
+    ensures { list_answered result ≡ slot_list_answer full_day day.now state.now slot lists.now }
 {
-    answer_within(input_data::full_day(), day, state, lists, slot)
+    part_within(input_data::full_day(), day, state, lists, slot)
 }
 
-// A slot's list: the used front of its part of the caller's buffer; refused, the empty front of the buffer.
-pub fn slot_list<'a>(day: &[u8], state: &[u8], lists: &'a [u8], slot: usize) -> &'a [u8]
-    ensures { HandsBack full_day day.now state.now slot lists.entry result }
+// A slot's list: the used front of its part of the caller's buffer.
+pub fn slot_list<'a>(
+    day: &[u8],
+    state: &[u8],
+    lists: &'a [u8],
+    slot: usize,
+) -> Result<&'a [u8], Refusal>
+    ensures { Listed full_day day.now state.now slot lists.entry result }
 {
-    let a = slot_list_answer(day, state, lists, slot);
-    &lists[a.start..a.start + a.length]
-}
-
-// The number that goes with it.
-pub fn slot_list_number(day: &[u8], state: &[u8], lists: &[u8], slot: usize) -> u32
-    ensures { result ≡ slot_list_lent full_day day.now state.now slot lists.now }
-{
-    slot_list_answer(day, state, lists, slot).number
+    let part = slot_list_part(day, state, lists, slot)?;
+    Ok(&lists[part.start..part.start + part.length])
 }

@@ -1,7 +1,7 @@
 // scheduling.rs: a schedule, its slots, and check 11.
 #![tactic(auto)]
 
-ghost use Rattle.std.specs.Prelude.{true, ◌&&◌, ◌≡◌, length};
+ghost use Rattle.std.specs.Prelude.{◌≡◌, length};
 ghost use Rattle.scheduling.specs.Schedule.{slot_in, bad_slots, kept};
 
 use counting::{any_of, front};
@@ -30,14 +30,6 @@ pub fn bad_slots(choices: usize, slots: usize, entries: &[u8]) -> bool
     ensures { result ≡ bad_slots choices slots entries.now }
 {
     any_of::<32, _>(choices, |i| slots < entries[i] as usize)
-}
-
-// The same of a schedule that is there.
-pub fn bad_slots_if(there: bool, choices: usize, slots: usize, entries: &[u8]) -> bool
-    requires { there ≡ true → length entries.now ≡ 32 }
-    ensures { result ≡ (there && bad_slots choices slots entries.now) }
-{
-    there && bad_slots(choices, slots, entries)
 }
 
 // The schedule as it is handed back: none past the day's choices.

@@ -16,9 +16,8 @@ use Rattle.satisfies_constraints.specs.Constraints.{scheduling_met, assignment_m
 use Rattle.feasibility.specs.Checks.{parts_number}
 use Rattle.feasibility.specs.Feasible.{schedule_feasible, plan_feasible}
 use Rattle.plan_score.specs.Evaluate.{evaluated}
-use Rattle.scoring.specs.declared.ScoreAnswer.{ScoreAnswer}
 use Rattle.scoring.specs.declared.VerdictAnswer.{VerdictAnswer}
-use Rattle.scoring.specs.declared.solution.Solution.{Solution}
+use Rattle.scoring.specs.Solution.{Solution}
 
 abbrev pub verdict : ℕ → Bool → VerdictAnswer
 verdict n b = record { number = n; holds = b }
@@ -80,6 +79,11 @@ evaluate_number l d kind sch plan preferences powers =
 -- anything without a plan scores infinite twice
 abbrev pub scored : InputData → Solution → Bool → List ℕ → List Float → Scheduling → List ℕ → Score
 scored d kind greedy preferences powers sch plan = cond (has_plan kind) (evaluated d greedy preferences powers (kept_of d sch) plan) infinite_twice
+
+-- the number of the answer, and the score, or zeros where refused
+pub record ScoreAnswer : Type 0 where
+  pub number : ℕ
+  pub score : Score
 
 abbrev pub zero_score : Score
 zero_score = record { major = fin false 0 (pos 0); minor = fin false 0 (pos 0) }

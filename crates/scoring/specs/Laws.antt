@@ -1,81 +1,77 @@
 -- What accepted input satisfies, and the numbers and answers as the code comes to them. Assumes nothing.
-use Rattle.std.specs.Prelude.{ℕ, ◌+◌, ◌*◌, ◌<◌, ◌≤◌, ◌≡◌, refl, Bool, true, not, ◌&&◌, ◌||◌, List, ◌≢◌, eqb, ltb, leb, length}
+use Rattle.std.specs.Prelude.{ℕ, Float, ◌+◌, ◌*◌, ◌<◌, ◌≤◌, ◌≡◌, Bool, true, not, ◌&&◌, ◌||◌, List, ◌≢◌, eqb, ltb, leb, length, Result, Ok, Err, IfOk, refl}
 use Rattle.std.proofs.Common.{sym, ◌∙◌, mul-le-mul, arith}
 use Rattle.std.proofs.Math.Path.{ap}
-use Rattle.std.proofs.Math.Bool.{false, or-false}
+use Rattle.std.proofs.Math.Bool.{false, or-false, or_comm}
 use borrow.Author.Tests.{eqb-true, eqb-false, eq-eqb, ne_eqb, ltb-false, leb-false, not-false}
 use Rattle.assignment.specs.Calls.{beside_plan, seats}
-use Rattle.assignment.specs.Laws.{small, seats_most, plan_accepted}
+use Rattle.assignment.specs.Laws.{small, seats_most}
 use Rattle.assignment.specs.Plan.{choice_of, unseated, bad_plan_for}
-use Rattle.counting.specs.Lists.{length_table}
 use Rattle.counting.specs.Sums.{grid_lt}
-use Rattle.counting.specs.Tests.{or_split, none_each, never}
+use Rattle.counting.specs.Tests.{or_split, none_each}
 use Rattle.input_data.specs.Accepted.{Accepted, accepted, past, first_zero}
 use Rattle.input_data.specs.Bytes.{IsDay, day_of, wider, lent_number}
-use Rattle.input_data.specs.BytesLaws.{lent_number_lem, lent_zero, lent_is}
+use Rattle.input_data.specs.BytesLaws.{lent_short, lent_number_lem, lent_is}
 use Rattle.input_data.specs.Checks.{first_of, day_number, has_bad_preferences, above_at, too_many}
 use Rattle.input_data.specs.Lengths.{Within, plan_length, preferences_length, powers_length}
+use Rattle.input_data.specs.Read.{day_read}
+use Rattle.input_data.specs.ReadLaws.{read_ok, read_err}
 use Rattle.input_data.specs.declared.Limits.{Limits}
 use Rattle.input_data.specs.declared.InputData.{InputData}
+use Rattle.input_data.specs.declared.checks.Beside.{Beside}
 use Rattle.feasibility.specs.Checks.{bad_seats, parts_number}
 use Rattle.feasibility.specs.Feasible.{schedule_feasible, plan_feasible}
 use Rattle.feasibility.specs.Laws.{Schedulable, Judged, Parted}
-use Rattle.plan_score.specs.Laws.{Weighed, Evaluable}
+use Rattle.plan_score.specs.Evaluate.{evaluated}
+use Rattle.plan_score.specs.Laws.{Weighed}
+use Rattle.refusal.specs.Number.{number, outcome}
+use Rattle.refusal.specs.Laws.{some_number}
+use Rattle.refusal.specs.declared.Refusal.{Refusal}
 use Rattle.scheduling.specs.Handed.{schedule_of, not_schedule, outside, kept_of}
-use Rattle.scheduling.specs.HandedLaws.{schedule_long, kept_inside}
-use Rattle.scheduling.specs.Schedule.{entry_at, kept_at}
+use Rattle.scheduling.specs.HandedLaws.{kept_inside}
+use Rattle.scheduling.specs.Schedule.{entry_at}
 use Rattle.scheduling.specs.ScheduleLaws.{kept_at_lem}
 use Rattle.scheduling.specs.declared.Scheduling.{Scheduling}
 use Rattle.seat_counts.specs.Laws.{Reading}
 use Rattle.slot_lists.specs.SumsLaws.{Weighs}
-use Rattle.scoring.specs.Calls.{verdict, verdict_of, beside_none, schedule_number, schedule_answer, verdict_number, plan_answer, has_schedule, has_plan, beside_tables, evaluate_number, zero_score, score_answer, score_or, schedule_lent, plan_lent, evaluate_lent_number}
+use Rattle.scoring.specs.Answered.{looked_at, verdict_answered, score_answered}
+use Rattle.scoring.specs.Calls.{verdict_of, beside_none, schedule_number, schedule_answer, verdict_number, plan_answer, has_schedule, scored, evaluate_number, evaluate_lent_number, evaluate_lent, schedule_lent, plan_lent}
+use Rattle.scoring.specs.Handed.{Parts, parts, with_plan, beside_scoring, schedule_handed, parts_handed, solution_handed, parts_scored, parts_lent}
+use Rattle.scoring.specs.Solution.{Solution}
 use Rattle.score.specs.declared.Score.{Score}
-use Rattle.scoring.specs.declared.ScoreAnswer.{ScoreAnswer}
-use Rattle.scoring.specs.declared.solution.Solution.{Solution}
-use Rattle.scoring.specs.declared.VerdictAnswer.{VerdictAnswer}
 
--- a lent day whose sizes may be multiplied
-pub record Multiplied (l : Limits) (day : List ℕ) : Type 0 where
-  pub long : IsDay day
-  pub within : Within l
-  pub few : too_many l (day_of day).choosers (day_of day).choices (day_of day).slots ≡ false
+-- ---- a schedule that was accepted
 
--- ---- laws
-
--- a schedule that was accepted weighs the day's choices
+-- it weighs the day's choices
 weighs : {l : Limits} {d : InputData} → Within l → Accepted l d → (sch : Scheduling) → outside d sch ≡ false → (w : List ℕ) → ((k : ℕ) → k < d.choices → entry_at w k ≤ 1000) → Weighs (kept_of d sch) w d.choices
 weighs {d = d} w a sch i v light =
     let s = small w a in
     record { count = s.choices; small = λ k h. omega (arith, kept_inside d sch s.choices i k h, s.slots); light = light }
 
--- ---- a schedule that was accepted
-
-schedule_accepted : (l : Limits) (d : InputData) (sch : Scheduling) → Within l → schedule_number l d sch ≡ 0 → Schedulable d (kept_of d sch)
-unfolding schedule_number
-schedule_accepted l d sch w e =
-    let rest = first_of (outside d sch) 11 0 in
-    let a = accepted l d beside_none rest w e in
-    let i = (first_zero (outside d sch) 11 0 (omega arith) (past l d beside_none rest e).none).0 in
+pub schedule_accepted : (l : Limits) (d : InputData) (sch : List ℕ) (b : Beside) → Within l → schedule_handed l d sch b ≡ 0 → Schedulable d (kept_of d (schedule_of sch))
+schedule_accepted l d sch b w e =
+    let k = schedule_of sch in
+    let rest = first_of (outside d k) 11 0 in
+    let a = accepted l d (wider (not_schedule sch) b) rest w e in
+    let s = small w a in
+    let i = (first_zero (outside d k) 11 0 (omega arith) (past l d (wider (not_schedule sch) b) rest e).none).0 in
     record {
-      day = small w a;
-      mins = weighs w a sch i d.mins (λ k h. omega (arith, a.min_max k h, a.max_most k h));
-      maxs = weighs w a sch i d.maxs a.max_most;
-      scheduling = a.scheduling;
-      long = length_table 32 (kept_at d.choices sch.entries);
+      read = record { few = s.choices; short = s.slots; accepted = a.scheduling };
+      sizes = record { mins = weighs w a k i d.mins (λ c h. omega (arith, a.min_max c h, a.max_most c h)); maxs = weighs w a k i d.maxs a.max_most };
     }
 
--- .. and the bytes in which it was lent
-pub record ScheduleLent (day sch : List ℕ) : Type 0 where
-  pub long : IsDay day
-  pub entries : length sch ≡ 32
-  pub schedulable : Schedulable (day_of day) (kept_of (day_of day) (schedule_of sch))
-
-pub schedule_lent_lem : (l : Limits) (day sch : List ℕ) → Within l → lent_number l day (not_schedule sch) (schedule_number l (day_of day) (schedule_of sch)) ≡ 0 → ScheduleLent day sch
-schedule_lent_lem l day sch w e =
-    let p = lent_zero l day (not_schedule sch) (schedule_number l (day_of day) (schedule_of sch)) e in
-    record { long = p.day; entries = schedule_long sch p.right; schedulable = schedule_accepted l (day_of day) (schedule_of sch) w p.zero }
-
 -- ---- a plan that was accepted beside its schedule
+
+-- of its length, it has room for the day's seats
+pub parted : (l : Limits) (d : InputData) (sch plan : List ℕ) (b : Beside) (rest : ℕ) → Within l → day_number l d (wider (not_schedule sch) (with_plan l (length plan) b)) rest ≡ 0 → Parted d (length plan)
+parted l d sch plan b rest w e =
+    let c = wider (not_schedule sch) (with_plan l (length plan) b) in
+    let a = accepted l d c rest w e in
+    let u : (not_schedule sch ≡ false) × ((not (eqb (length plan) (plan_length l)) || b.bad_lengths) ≡ false) = or_split (past l d c rest e).lengths in
+    let v : (not (eqb (length plan) (plan_length l)) ≡ false) × (b.bad_lengths ≡ false) = or_split u.1 in
+    let n : length plan ≡ plan_length l = eqb-true _ _ (not-false _ v.0) in
+    let m : seats d ≤ plan_length l = mul-le-mul a.choosers a.slots in
+    record { small = small w a; inside = omega (arith, n, m) }
 
 module _ {l : Limits} {d : InputData} (sch : Scheduling) (plan : List ℕ) (w : Within l) (a : Accepted l d) (long : seats d ≤ length plan) (i : outside d sch ≡ false) (b : bad_seats d sch plan ≡ false) where
   entry_fine : (n : ℕ) → n < seats d → (entry_at plan n < d.choices) × (entry_at (kept_of d sch) (entry_at plan n) ≢ 0)
@@ -85,14 +81,12 @@ module _ {l : Limits} {d : InputData} (sch : Scheduling) (plan : List ℕ) (w : 
       let k : entry_at plan n < d.choices = leb-false d.choices (entry_at plan n) u.0 in
       (k, λ z. eqb-false (entry_at sch.entries (entry_at plan n)) 0 u.1 (sym (kept_at_lem d.choices sch.entries (entry_at plan n) k (small w a).choices) ∙ z))
 
-  pub judged : Judged d (kept_of d sch) plan
+  judged : Judged d (kept_of d sch) plan
   judged =
       let s = small w a in
       record {
-        day = s;
-        scheduling = a.scheduling;
-        assignment = a.assignment;
-        inside = record { few = s.choosers; short = s.slots; inside = long };
+        scheduling = record { few = s.choices; short = s.slots; accepted = a.scheduling };
+        assignment = record { accepted = a.assignment; inside = record { few = s.choosers; short = s.slots; inside = long } };
         seated = record {
           few = s.choosers;
           short = s.slots;
@@ -102,10 +96,9 @@ module _ {l : Limits} {d : InputData} (sch : Scheduling) (plan : List ℕ) (w : 
           small = λ c t hc ht. omega (arith, s.slots, kept_inside d sch s.choices i (choice_of d.slots plan c t) (entry_fine (c * d.slots + t) (grid_lt hc ht)).0);
         };
         choices = record { few = seats_most s; inside = long; choice = λ n h. omega (arith, s.choices, (entry_fine n h).0) };
-        long = length_table 32 (kept_at d.choices sch.entries);
       }
 
-  pub reads : (preferences : List ℕ) → length preferences ≡ preferences_length d → has_bad_preferences d.max_preference preferences ≡ false → Reading d.choosers d.choices d.slots preferences plan
+  reads : (preferences : List ℕ) → length preferences ≡ preferences_length d → has_bad_preferences d.max_preference preferences ≡ false → Reading d.choosers d.choices d.slots preferences plan
   unfolding has_bad_preferences
   reads preferences n p =
       let s = small w a in
@@ -119,61 +112,61 @@ module _ {l : Limits} {d : InputData} (sch : Scheduling) (plan : List ℕ) (w : 
         small = λ m h. omega (arith, a.max_preference, ltb-false d.max_preference (entry_at preferences m) (none_each (length preferences) (above_at d.max_preference preferences) p m h));
       }
 
--- the parts that are there pass 11 and 13
-parts_fine : (schedule seated : Bool) (d : InputData) (sch : Scheduling) (plan : List ℕ) → parts_number schedule seated d sch plan ≡ 0 → ((schedule && outside d sch) ≡ false) × ((seated && bad_seats d sch plan) ≡ false)
+-- the parts pass 11 and 13
+parts_fine : (d : InputData) (sch : Scheduling) (plan : List ℕ) → parts_number true true d sch plan ≡ 0 → (outside d sch ≡ false) × (bad_seats d sch plan ≡ false)
 unfolding parts_number
-parts_fine schedule seated d sch plan e =
-    let p = first_zero (schedule && outside d sch) 11 _ (omega arith) e in
-    (p.0, (first_zero (seated && bad_seats d sch plan) 13 0 (omega arith) p.1).0)
+parts_fine d sch plan e =
+    let p = first_zero (outside d sch) 11 _ (omega arith) e in
+    (p.0, (first_zero (bad_seats d sch plan) 13 0 (omega arith) p.1).0)
 
-verdict_accepted : (l : Limits) (d : InputData) (sch : Scheduling) (plan : List ℕ) → Within l → verdict_number l d sch plan ≡ 0 → Judged d (kept_of d sch) plan
-unfolding verdict_number
-verdict_accepted l d sch plan w e =
-    let rest = parts_number true true d sch plan in
-    let a = plan_accepted l d plan false false rest w e in
-    let p = parts_fine true true d sch plan (past l d (beside_plan l (length plan) false false) rest e).none in
-    judged sch plan w a.day a.plan_in p.0 p.1
+module _ (l : Limits) (d : InputData) (sch plan : List ℕ) (b : Beside) (w : Within l) (e : parts_handed l d sch plan b ≡ 0) where
+  abbrev beside : Beside
+  beside = wider (not_schedule sch) (with_plan l (length plan) b)
 
--- .. and the bytes in which its day and schedule were lent
-pub record PlanLent (day sch plan : List ℕ) : Type 0 where
-  pub long : IsDay day
-  pub entries : length sch ≡ 32
-  pub judged : Judged (day_of day) (kept_of (day_of day) (schedule_of sch)) plan
+  abbrev rest : ℕ
+  rest = parts_number true true d (schedule_of sch) plan
 
-pub verdict_lent : (l : Limits) (day sch plan : List ℕ) → Within l → lent_number l day (not_schedule sch) (verdict_number l (day_of day) (schedule_of sch) plan) ≡ 0 → PlanLent day sch plan
-verdict_lent l day sch plan w e =
-    let p = lent_zero l day (not_schedule sch) (verdict_number l (day_of day) (schedule_of sch) plan) e in
-    record { long = p.day; entries = schedule_long sch p.right; judged = verdict_accepted l (day_of day) (schedule_of sch) plan w p.zero }
+  day : Accepted l d
+  day = accepted l d beside rest w e
 
--- the plan's length, tested with the schedule's
-pub verdict_parts : (l : Limits) (day sch plan : List ℕ) {n : ℕ} → Within l → IsDay day → n ≡ day_number l (day_of day) (wider (not_schedule sch) (beside_plan l (length plan) false false)) 0 → n ≡ 0 → Parted true true day sch (length plan)
-verdict_parts l day sch plan w h p z =
-    let e = sym p ∙ z in
-    let b = wider (not_schedule sch) (beside_plan l (length plan) false false) in
-    let a = accepted l (day_of day) b 0 w e in
-    let u : (not_schedule sch ≡ false) × ((not (eqb (length plan) (plan_length l)) || false) ≡ false) = or_split (past l (day_of day) b 0 e).lengths in
-    let n : length plan ≡ plan_length l = eqb-true _ _ (not-false _ (sym (or-false (not (eqb (length plan) (plan_length l)))) ∙ u.1)) in
-    let m : seats (day_of day) ≤ plan_length l = mul-le-mul a.choosers a.slots in
-    record { long = h; small = small w a; schedule = λ t. schedule_long sch u.0; plan = λ t. (schedule_long sch u.0, omega (arith, n, m)) }
+  inside : seats d ≤ length plan
+  inside = (parted l d sch plan b rest w e).inside
 
--- nothing else that is lent is short
-pub beside_schedule : (l : Limits) (d : InputData) (sch : List ℕ) (rest : ℕ) {n : ℕ} {wrong : Bool} → wrong ≡ not_schedule sch → n ≡ day_number l d (record { bad_lengths = wrong; bad_preferences = false; bad_levels = false; bad_costs = false; bad_asked = false }) rest → n ≡ day_number l d (wider (not_schedule sch) beside_none) rest
-beside_schedule l d sch rest e p = rw (or-false (not_schedule sch)) (rw e at p)
+  fine : (outside d (schedule_of sch) ≡ false) × (bad_seats d (schedule_of sch) plan ≡ false)
+  fine = parts_fine d (schedule_of sch) plan (past l d beside rest e).none
 
-pub beside_plan_lem : (l : Limits) (d : InputData) (sch : List ℕ) (size rest : ℕ) {n : ℕ} {wrong : Bool} → wrong ≡ not_schedule sch → n ≡ day_number l d (record { bad_lengths = wrong || not (eqb size (plan_length l)); bad_preferences = false; bad_levels = false; bad_costs = false; bad_asked = false }) rest → n ≡ day_number l d (wider (not_schedule sch) (beside_plan l size false false)) rest
-beside_plan_lem l d sch size rest e p = rw (or-false (not (eqb size (plan_length l)))) (rw e at p)
+  pub parts_accepted : Judged d (kept_of d (schedule_of sch)) plan
+  parts_accepted = judged (schedule_of sch) plan w day inside fine.0 fine.1
 
--- ---- answers
+-- .. and tables of their lengths
+pub parts_weighed : (l : Limits) (d : InputData) (sch plan preferences : List ℕ) (powers : ℕ) → Within l → parts_handed l d sch plan (beside_scoring d preferences powers) ≡ 0 → Weighed d preferences powers plan
+parts_weighed l d sch plan preferences powers w e =
+    let b = beside_scoring d preferences powers in
+    let p = past l d (beside l d sch plan b w e) (rest l d sch plan b w e) e in
+    let u : (not_schedule sch ≡ false) × ((not (eqb (length plan) (plan_length l)) || b.bad_lengths) ≡ false) = or_split p.lengths in
+    let v : (not (eqb (length plan) (plan_length l)) ≡ false) × (b.bad_lengths ≡ false) = or_split u.1 in
+    let t : (not (eqb (length preferences) (preferences_length d)) ≡ false) × (not (eqb powers (powers_length d)) ≡ false) = or_split v.1 in
+    let n : powers ≡ powers_length d = eqb-true _ _ (not-false _ t.1) in
+    let a = day l d sch plan b w e in
+    let f = fine l d sch plan b w e in
+    record {
+      reading = reads (schedule_of sch) plan w a (inside l d sch plan b w e) f.0 f.1 preferences (eqb-true _ _ (not-false _ t.0)) p.preferences;
+      most = a.max_preference;
+      table = omega (arith, n);
+    }
 
-pub verdict_refused : (n : ℕ) (b : Bool) {m : ℕ} {r : VerdictAnswer} → m ≡ n → m ≢ 0 → r ≡ verdict m false → r ≡ verdict_of n b
-verdict_refused n b e d p = p ∙ rw (ne_eqb n 0 (λ z. d (e ∙ z)), e)
+-- ---- numbers
 
-pub verdict_done : (n : ℕ) (b : Bool) {m : ℕ} {t : Bool} {r : VerdictAnswer} → m ≡ n → m ≡ 0 → r ≡ verdict 0 t → t ≡ b → r ≡ verdict_of n b
-verdict_done n b e z p q = let y : n ≡ 0 = sym e ∙ z in p ∙ rw (q, y)
+-- what was lent beside a day that passes has its lengths
+pub lengths_right : (l : Limits) (d : InputData) (b : Beside) → 0 ≡ day_number l d b 0 → b.bad_lengths ≡ false
+lengths_right l d b e = (past l d b 0 (sym e)).lengths
 
--- ---- evaluate
+-- a day that is too large is refused by 1, whatever else is tested
+pub number_many : (l : Limits) (d : InputData) (b : Beside) (rest : ℕ) → too_many l d.choosers d.choices d.slots ≡ true → 1 ≡ day_number l d b rest
+unfolding day_number first_of
+number_many l d b rest e = rw e
 
--- a day that is not too large can be multiplied
+-- one that is not can be multiplied
 pub cells_most : (l : Limits) (d : InputData) → Within l → too_many l d.choosers d.choices d.slots ≡ false → d.choosers * d.choices ≤ 2048
 cells_most l d w e =
     let m : ((ltb l.choosers d.choosers || ltb l.choices d.choices) ≡ false) × (ltb l.slots d.slots ≡ false) = or_split e in
@@ -182,71 +175,66 @@ cells_most l d w e =
     let b : d.choices ≤ 32 = omega (arith, w.choices, ltb-false l.choices d.choices n.1) in
     mul-le-mul a b
 
--- tables of their lengths, and a plan of its length if there is one
-record Tabled (l : Limits) (d : InputData) (there : Bool) (preferences : List ℕ) (powers plan : ℕ) : Type 0 where
-  day : Accepted l d
-  table : length preferences ≡ preferences_length d
-  powered : powers ≡ powers_length d
-  small : has_bad_preferences d.max_preference preferences ≡ false
-  long : there ≡ true → seats d ≤ plan
+-- the number of a solution is that of the parts that it has
+module _ (l : Limits) (d : InputData) (sch plan preferences : List ℕ) (powers : ℕ) where
+  abbrev tables : Beside
+  tables = beside_scoring d preferences powers
 
-tabled : (l : Limits) (d : InputData) (there : Bool) (preferences : List ℕ) (powers plan rest : ℕ) → Within l → day_number l d (beside_tables l d there preferences powers plan) rest ≡ 0 → Tabled l d there preferences powers plan
-tabled l d there preferences powers plan rest w e =
-    let a = accepted l d (beside_tables l d there preferences powers plan) rest w e in
-    let p = past l d (beside_tables l d there preferences powers plan) rest e in
-    let u : ((not (eqb (length preferences) (preferences_length d)) || not (eqb powers (powers_length d))) ≡ false) × ((there && not (eqb plan (plan_length l))) ≡ false) = or_split p.lengths in
-    let v : (not (eqb (length preferences) (preferences_length d)) ≡ false) × (not (eqb powers (powers_length d)) ≡ false) = or_split u.0 in
-    record {
-      day = a;
-      table = eqb-true _ _ (not-false _ v.0);
-      powered = eqb-true _ _ (not-false _ v.1);
-      small = p.preferences;
-      long = λ t. let n : plan ≡ plan_length l = eqb-true _ _ (not-false _ (rw t at u.1)) in let m : seats d ≤ plan_length l = mul-le-mul a.choosers a.slots in omega (arith, n, m);
-    }
+  pub invalid_number : {n : ℕ} → n ≡ day_number l d tables 0 → n ≡ solution_handed l d (parts Solution.Invalid sch plan) preferences powers
+  unfolding parts_number first_of
+  invalid_number p = rw (or-false tables.bad_lengths) p
 
--- a plan comes with a schedule
-with_schedule : (k : Solution) → has_plan k ≡ true → has_schedule k ≡ true
-with_schedule Solution.Invalid e = never (sym e)
-with_schedule Solution.Scheduling e = refl
-with_schedule Solution.Complete e = refl
+  pub scheduling_number : {n : ℕ} → n ≡ schedule_handed l d sch tables → n ≡ solution_handed l d (parts Solution.Scheduling sch plan) preferences powers
+  unfolding parts_number first_of
+  scheduling_number p = rw (or-false tables.bad_lengths) p
 
-evaluate_accepted : (l : Limits) (d : InputData) (kind : Solution) (sch : Scheduling) (plan preferences : List ℕ) (powers : ℕ) → Within l → evaluate_number l d kind sch plan preferences powers ≡ 0 → has_plan kind ≡ true → Judged d (kept_of d sch) plan × Weighed d preferences powers plan
-unfolding evaluate_number
-evaluate_accepted l d kind sch plan preferences powers w e h =
-    let rest = parts_number (has_schedule kind) (has_plan kind) d sch plan in
-    let b = beside_tables l d (has_plan kind) preferences powers (length plan) in
-    let t = tabled l d (has_plan kind) preferences powers (length plan) rest w e in
-    let p = parts_fine (has_schedule kind) (has_plan kind) d sch plan (past l d b rest e).none in
-    let i : outside d sch ≡ false = rw (with_schedule kind h) at p.0 in
-    let q : bad_seats d sch plan ≡ false = rw h at p.1 in (
-      judged sch plan w t.day (t.long h) i q,
-      record {
-        reading = reads sch plan w t.day (t.long h) i q preferences t.table t.small;
-        most = t.day.max_preference;
-        table = omega (arith, t.powered);
-      },
-    )
+  pub complete_number : {n : ℕ} → n ≡ parts_handed l d sch plan tables → n ≡ solution_handed l d (parts Solution.Complete sch plan) preferences powers
+  complete_number p = rw (or_comm tables.bad_lengths (not (eqb (length plan) (plan_length l)))) p
 
--- the bytes and tables of a call whose day's number is 0
-pub evaluate_parts : (l : Limits) (day : List ℕ) (kind : Solution) (sch preferences : List ℕ) (powers plan : ℕ) {n : ℕ} → Within l → IsDay day → n ≡ day_number l (day_of day) (wider (has_schedule kind && not_schedule sch) (beside_tables l (day_of day) (has_plan kind) preferences powers plan)) 0 → n ≡ 0 → Parted (has_schedule kind) (has_plan kind) day sch plan
-evaluate_parts l day kind sch preferences powers plan w h p z =
-    let q = lent_zero l day (has_schedule kind && not_schedule sch) (day_number l (day_of day) (beside_tables l (day_of day) (has_plan kind) preferences powers plan) 0) (sym (lent_number_lem l day (has_schedule kind && not_schedule sch) (beside_tables l (day_of day) (has_plan kind) preferences powers plan) 0 h) ∙ sym p ∙ z) in
-    let t = tabled l (day_of day) (has_plan kind) preferences powers plan 0 w q.zero in
-    let s : has_schedule kind ≡ true → length sch ≡ 32 = λ u. schedule_long sch (rw u at q.right) in
-    record { long = h; small = small w t.day; schedule = s; plan = λ u. (s (with_schedule kind u), t.long u) }
+-- ---- answers: by the number of a call that is lent a day, as the code comes to it
 
-pub evaluate_lent_lem : (l : Limits) (day : List ℕ) (kind : Solution) (sch plan preferences : List ℕ) (powers : ℕ) → Within l → evaluate_lent_number l day kind sch plan preferences powers ≡ 0 → has_plan kind ≡ true
-    → (length sch ≡ 32) × Evaluable day preferences powers (kept_of (day_of day) (schedule_of sch)) plan
-evaluate_lent_lem l day kind sch plan preferences powers w e h =
-    let p = lent_zero l day (has_schedule kind && not_schedule sch) (evaluate_number l (day_of day) kind (schedule_of sch) plan preferences powers) e in
-    let q = evaluate_accepted l (day_of day) kind (schedule_of sch) plan preferences powers w p.zero h in
-    (schedule_long sch (rw (with_schedule kind h) at p.right), record { long = p.day; judged = q.0; weighed = q.1 })
+module _ (l : Limits) (day : List ℕ) (wrong : Bool) (b : Beside) (rest : ℕ) where
+  abbrev lent : ℕ
+  lent = lent_number l day wrong (day_number l (day_of day) b rest)
 
-pub score_refused : (n : ℕ) (s : Score) {m : ℕ} {r : ScoreAnswer} → m ≡ n → m ≢ 0 → r ≡ score_answer m zero_score → r ≡ score_or n s
-score_refused n s e d p = p ∙ rw (ne_eqb n 0 (λ z. d (e ∙ z)), e)
+  -- a day that is not read is refused by 2, and the number of one that is read is that of its tests
+  unread : {r : Refusal} → Err r ≡ day_read day → number r ≡ lent
+  unread e = let p = read_err day e in p.1 ∙ lent_short l day wrong (day_number l (day_of day) b rest) p.0
 
-pub score_done : (n : ℕ) (s : Score) {m : ℕ} {t : Score} {r : ScoreAnswer} → m ≡ n → m ≡ 0 → r ≡ score_answer 0 t → t ≡ s → r ≡ score_or n s
-score_done n s e z p q = let y : n ≡ 0 = sym e ∙ z in p ∙ rw (q, y)
+  tested : {d : InputData} {n : ℕ} → Ok d ≡ day_read day → n ≡ day_number l d (wider wrong b) rest → n ≡ lent
+  tested e p = let q = read_ok day e in (rw q.1 at p) ∙ lent_number_lem l day wrong b rest q.0
+
+  pub verdict_unread : {r : Refusal} (t : Bool) → Err r ≡ day_read day → verdict_answered (Err r) ≡ verdict_of lent t
+  verdict_unread {r = r} t e = rw (← unread e, ne_eqb (number r) 0 (some_number r))
+
+  pub verdict_refused : {d : InputData} (r : Refusal) (t : Bool) → Ok d ≡ day_read day → number r ≡ day_number l d (wider wrong b) rest → verdict_answered (Err r) ≡ verdict_of lent t
+  verdict_refused r t e p = rw (← tested e p, ne_eqb (number r) 0 (some_number r))
+
+  pub verdict_given : {d : InputData} (t : Bool) → Ok d ≡ day_read day → 0 ≡ day_number l d (wider wrong b) rest → verdict_answered (Ok t) ≡ verdict_of lent t
+  verdict_given t e p = rw (← tested e p)
+
+module _ (l : Limits) (day : List ℕ) (s : Parts) (greedy : Bool) (preferences : List ℕ) (powers : List Float) where
+  -- the number of a day that is read
+  solution_tested : {d : InputData} {n : ℕ} → Ok d ≡ day_read day → n ≡ solution_handed l d s preferences (length powers) → n ≡ evaluate_lent_number l day s.kind s.schedule s.plan preferences (length powers)
+  unfolding evaluate_number
+  solution_tested e p = let q = read_ok day e in (rw q.1 at p) ∙ lent_number_lem l day (has_schedule s.kind && not_schedule s.schedule) _ _ q.0
+
+  pub score_unread : {r : Refusal} → Err r ≡ day_read day → score_answered (Err r) ≡ parts_lent l day s greedy preferences powers
+  unfolding evaluate_lent evaluate_number
+  score_unread {r = r} e = rw (← unread l day (has_schedule s.kind && not_schedule s.schedule) _ _ e, ne_eqb (number r) 0 (some_number r))
+
+  pub score_tested : {d : InputData} (r : Result Score Refusal) → Ok d ≡ day_read day → outcome r ≡ solution_handed l d s preferences (length powers) → IfOk r (λ v. v ≡ parts_scored d s greedy preferences powers)
+      → score_answered r ≡ parts_lent l day s greedy preferences powers
+  unfolding evaluate_lent
+  score_tested (Ok v) e p q = rw (← solution_tested e p, q, (read_ok day e).1)
+  score_tested (Err r) e p q = rw (← solution_tested e p, ne_eqb (number r) 0 (some_number r))
+
+-- a part that a solution lacks is not looked at
+pub evaluate_looked : (l : Limits) (bytes : List ℕ) (kind : Solution) (sch plan : List ℕ) (greedy : Bool) (preferences : List ℕ) (powers : List Float) → parts_lent l bytes (looked_at (parts kind sch plan)) greedy preferences powers ≡ evaluate_lent l bytes kind sch plan greedy preferences powers
+unfolding evaluate_lent evaluate_number parts_number
+evaluate_looked l bytes Solution.Invalid sch plan greedy preferences powers = refl
+evaluate_looked l bytes Solution.Scheduling sch plan greedy preferences powers = refl
+evaluate_looked l bytes Solution.Complete sch plan greedy preferences powers = refl
 
 -- ---- bytes of their lengths: the answers are those on what they stand for
 

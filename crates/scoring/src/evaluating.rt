@@ -1,146 +1,80 @@
 // Scoring::evaluate.
-ghost use Rattle.std.specs.Prelude.{◌≡◌};
-ghost use Rattle.input_data.specs.Bytes.{day_of, wider};
+ghost use Rattle.std.specs.Prelude.{◌≡◌, ◌*◌, ◌≤◌, length, IfOk};
+ghost use Rattle.refusal.specs.Number.{outcome};
 ghost use Rattle.input_data.specs.Lengths.{Within, full_day};
-ghost use Rattle.scoring.specs.Calls.{beside_tables, zero_score, evaluate_lent_number, evaluate_lent};
-ghost use Rattle.scoring.specs.Laws.{Multiplied};
+ghost use Rattle.scoring.specs.Answered.{parts_of, score_answered};
+ghost use Rattle.scoring.specs.Handed.{beside_scoring, solution_handed, parts_scored, parts_lent};
 
-use crate::ScoreAnswer;
+use crate::reading::{read_parts, read_schedule};
 use crate::solution::Solution;
-use input_data::{Beside, Limits};
+use day_checks::{bad_preferences, check_day};
+use input_data::{Beside, Day, Limits, full_day, too_many};
+use plan_score::Scoring;
+use refusal::Refusal;
 use score::Score;
 
-// What evaluate tests beside the day, whose sizes are tested before any product of them is formed.
-fn beside_tables(
-    limits: Limits,
-    day: &[u8],
-    there: bool,
-    wrong: bool,
-    preferences: &[u32],
-    powers: usize,
-    plan: usize,
-) -> Beside
-    requires { Multiplied limits day.now }
-    ensures { result ≡ wider wrong (beside_tables limits (day_of day.now) there preferences.now powers plan) }
+// What a call tests of a score's tables. The day's sizes are tested before any product of them is formed.
+fn beside_scoring(day: &Day, by: &Scoring) -> Beside
+    requires { day.now.choosers * day.now.choices ≤ 2048 }
+    ensures { result ≡ beside_scoring day.now by.now.preferences.now (length by.now.powers.now) }
 {
-    let most = input_data::max_preference(day);
-    let cells = input_data::choosers(day) * input_data::choices(day);
-    let size = limits.choosers * limits.slots;
-    let tables = plan_score::wrong_tables(
-        cells,
-        most,
-        there,
-        size,
-        preferences.len(),
-        powers,
-        plan,
-    );
+    let most = day.max_preference();
     Beside {
-        bad_lengths: wrong | tables,
-        bad_preferences: day_checks::bad_preferences(most, preferences),
+        bad_lengths: (by.preferences.len() != day.choosers() * day.choices())
+            | (by.powers.len() != most as usize + 1),
+        bad_preferences: bad_preferences(most, by.preferences),
         bad_levels: false,
         bad_costs: false,
         bad_asked: false,
     }
 }
 
-fn evaluate_number(
+// The score of a solution, once all that it has has passed the tests of the call. What has no plan scores infinite twice.
+#[tactic(auto, using(crate::specs::Laws::number_many, crate::specs::Laws::cells_most, crate::specs::Laws::invalid_number, crate::specs::Laws::scheduling_number, crate::specs::Laws::complete_number, crate::specs::Laws::parts_weighed))]
+fn score_solution(
     limits: Limits,
-    day: &[u8],
-    solution: Solution,
-    schedule: &[u8],
-    plan: &[u8],
-    preferences: &[u32],
-    powers: usize,
-) -> u32
+    day: &Day,
+    solution: &Solution,
+    by: &Scoring,
+) -> Result<Score, Refusal>
     requires { Within limits }
-    ensures { result ≡ evaluate_lent_number limits day.now solution schedule.now plan.now preferences.now powers }
+    ensures number { outcome result ≡ solution_handed limits day.now (parts_of solution.now) by.now.preferences.now (length by.now.powers.now) }
+    ensures score { IfOk result (λ s. s ≡ parts_scored day.now (parts_of solution.now) by.now.greedy by.now.preferences.now by.now.powers.now) }
 {
-    if day.len() != 2044 {
-        return 2;
+    if too_many(limits, day.choosers(), day.choices(), day.slots()) {
+        return Err(Refusal::TooMany);
     }
-    if input_data::too_many(
-        limits,
-        input_data::choosers(day),
-        input_data::choices(day),
-        input_data::slots(day),
-    ) {
-        return 1;
+    let beside = beside_scoring(day, by);
+    match solution {
+        Solution::Invalid => check_day(limits, day, beside)?,
+        Solution::Scheduling(schedule) => {
+            read_schedule(limits, day, schedule, beside)?;
+        }
+        Solution::Complete(schedule, plan) => {
+            let entries = read_parts(limits, day, schedule, plan, beside)?;
+            return Ok(by.evaluate(day, &entries, plan));
+        }
     }
-    let there = solution.has_plan();
-    let scheduled = solution.has_schedule();
-    let wrong = feasibility::wrong_schedule(scheduled, schedule.len());
-    let beside = beside_tables(limits, day, there, wrong, preferences, powers, plan.len());
-    let number = day_checks::day_number(limits, day, beside, 0);
-    if number != 0 {
-        return number;
-    }
-    feasibility::parts_number(scheduled, there, day, schedule, plan)
+    Ok(Score::infinite())
 }
 
-fn no_score() -> Score
-    ensures { result ≡ zero_score }
-{
-    Score {
-        major: 0.0,
-        minor: 0.0,
-    }
-}
-
+#[tactic(auto, using(crate::specs::Laws::score_unread, crate::specs::Laws::score_tested))]
 fn evaluate_within(
     limits: Limits,
     day: &[u8],
-    solution: Solution,
-    schedule: &[u8],
-    plan: &[u8],
-    greedy: bool,
-    preferences: &[u32],
-    powers: &[f32],
-) -> ScoreAnswer
+    solution: &Solution,
+    by: &Scoring,
+) -> Result<Score, Refusal>
     requires { Within limits }
-    ensures { result ≡ evaluate_lent limits day.now solution schedule.now plan.now greedy preferences.now powers.now }
+    ensures { score_answered result ≡ parts_lent limits day.now (parts_of solution.now) by.now.greedy by.now.preferences.now by.now.powers.now }
 {
-    let size = powers.len();
-    let number = evaluate_number(limits, day, solution, schedule, plan, preferences, size);
-    if number != 0 {
-        return ScoreAnswer {
-            number,
-            score: no_score(),
-        };
-    }
-    if solution.has_plan() {
-        let entries = scheduling::kept(input_data::choices(day), schedule);
-        return ScoreAnswer {
-            number,
-            score: plan_score::evaluate_plan(day, greedy, preferences, powers, &entries, plan),
-        };
-    }
-    ScoreAnswer {
-        number,
-        score: Score::infinite(),
-    }
+    let day = Day::read(day)?;
+    score_solution(limits, &day, solution, by)
 }
 
 // The score of a solution. What has no plan scores infinite twice.
-pub fn evaluate(
-    day: &[u8],
-    solution: Solution,
-    schedule: &[u8],
-    plan: &[u8],
-    greedy: bool,
-    preferences: &[u32],
-    powers: &[f32],
-) -> ScoreAnswer
-    ensures { result ≡ evaluate_lent full_day day.now solution schedule.now plan.now greedy preferences.now powers.now }
+pub fn evaluate(day: &[u8], solution: &Solution, by: &Scoring) -> Result<Score, Refusal>
+    ensures { score_answered result ≡ parts_lent full_day day.now (parts_of solution.now) by.now.greedy by.now.preferences.now by.now.powers.now }
 {
-    evaluate_within(
-        input_data::full_day(),
-        day,
-        solution,
-        schedule,
-        plan,
-        greedy,
-        preferences,
-        powers,
-    )
+    evaluate_within(full_day(), day, solution, by)
 }

@@ -3,15 +3,19 @@
 #![tactic(auto)]
 
 mod evaluating;
-mod numbers;
 mod plan;
+mod reading;
 mod schedule;
 mod solution;
 
+ghost use Rattle.std.specs.Prelude.{◌≡◌};
+ghost use Rattle.scoring.specs.Answered.{verdict_answered};
+
 pub use evaluating::evaluate;
 pub use plan::{is_feasible, satisfies_constraints_assignment};
+pub use plan_score::Scoring;
+use refusal::Refusal;
 pub use schedule::{satisfies_constraints_scheduling, schedule_is_feasible};
-use score::Score;
 pub use solution::Solution;
 
 // The number of the answer, and whether the test holds; no where refused.
@@ -22,9 +26,16 @@ pub struct VerdictAnswer {
     pub holds: bool,
 }
 
-// The number of the answer, and the score, or zeros where refused.
-#[derive(Clone, Copy)]
-pub struct ScoreAnswer {
-    pub number: u32,
-    pub score: Score,
+impl From<Result<bool, Refusal>> for VerdictAnswer {
+    ghost from_gives = { λ verdict answer. answer ≡ verdict_answered verdict };
+
+    fn from(verdict: Result<bool, Refusal>) -> VerdictAnswer {
+        match verdict {
+            Ok(holds) => VerdictAnswer { number: 0, holds },
+            Err(refusal) => VerdictAnswer {
+                number: u32::from(refusal),
+                holds: false,
+            },
+        }
+    }
 }

@@ -1,58 +1,52 @@
 // The verdict on a plan: satisfies_constraints_assignment, and Scoring::is_feasible.
+#![tactic(auto, using(crate::specs::Laws::verdict_unread, crate::specs::Laws::verdict_refused, crate::specs::Laws::verdict_given, input_data::specs::ReadLaws::read_ok), unfolding(crate::specs::Calls::assignment_lent, crate::specs::Calls::plan_lent, crate::specs::Calls::verdict_number))]
+
 ghost use Rattle.std.specs.Prelude.{◌≡◌};
 ghost use Rattle.input_data.specs.Lengths.{Within, full_day};
+ghost use Rattle.scoring.specs.Answered.{verdict_answered};
 ghost use Rattle.scoring.specs.Calls.{assignment_lent, plan_lent};
 
-use crate::VerdictAnswer;
-use crate::numbers::verdict_number;
-use input_data::Limits;
+use crate::reading::{NOTHING, read_parts};
+use input_data::{Day, Limits, full_day};
+use refusal::Refusal;
 
-fn assignment_within(limits: Limits, day: &[u8], schedule: &[u8], plan: &[u8]) -> VerdictAnswer
+fn assignment_within(
+    limits: Limits,
+    day: &[u8],
+    schedule: &[u8],
+    plan: &[u8],
+) -> Result<bool, Refusal>
     requires { Within limits }
-    ensures { result ≡ assignment_lent limits day.now schedule.now plan.now }
+    ensures { verdict_answered result ≡ assignment_lent limits day.now schedule.now plan.now }
 {
-    let number = verdict_number(limits, day, schedule, plan);
-    if number != 0 {
-        return VerdictAnswer {
-            number,
-            holds: false,
-        };
-    }
-    let entries = scheduling::kept(input_data::choices(day), schedule);
-    VerdictAnswer {
-        number,
-        holds: feasibility::assignment_holds(day, &entries, plan),
-    }
+    let day = Day::read(day)?;
+    let entries = read_parts(limits, &day, schedule, plan, NOTHING)?;
+    Ok(satisfies_constraints::assignment_met(&day, &entries, plan))
 }
 
 // Whether the plan meets every assignment constraint of the day.
-pub fn satisfies_constraints_assignment(day: &[u8], schedule: &[u8], plan: &[u8]) -> VerdictAnswer
-    ensures { result ≡ assignment_lent full_day day.now schedule.now plan.now }
+pub fn satisfies_constraints_assignment(
+    day: &[u8],
+    schedule: &[u8],
+    plan: &[u8],
+) -> Result<bool, Refusal>
+    ensures { verdict_answered result ≡ assignment_lent full_day day.now schedule.now plan.now }
 {
-    assignment_within(input_data::full_day(), day, schedule, plan)
+    assignment_within(full_day(), day, schedule, plan)
 }
 
-fn plan_within(limits: Limits, day: &[u8], schedule: &[u8], plan: &[u8]) -> VerdictAnswer
+fn plan_within(limits: Limits, day: &[u8], schedule: &[u8], plan: &[u8]) -> Result<bool, Refusal>
     requires { Within limits }
-    ensures { result ≡ plan_lent limits day.now schedule.now plan.now }
+    ensures { verdict_answered result ≡ plan_lent limits day.now schedule.now plan.now }
 {
-    let number = verdict_number(limits, day, schedule, plan);
-    if number != 0 {
-        return VerdictAnswer {
-            number,
-            holds: false,
-        };
-    }
-    let entries = scheduling::kept(input_data::choices(day), schedule);
-    VerdictAnswer {
-        number,
-        holds: feasibility::plan_holds(day, &entries, plan),
-    }
+    let day = Day::read(day)?;
+    let entries = read_parts(limits, &day, schedule, plan, NOTHING)?;
+    Ok(feasibility::plan_holds(&day, &entries, plan))
 }
 
 // Scoring::is_feasible.
-pub fn is_feasible(day: &[u8], schedule: &[u8], plan: &[u8]) -> VerdictAnswer
-    ensures { result ≡ plan_lent full_day day.now schedule.now plan.now }
+pub fn is_feasible(day: &[u8], schedule: &[u8], plan: &[u8]) -> Result<bool, Refusal>
+    ensures { verdict_answered result ≡ plan_lent full_day day.now schedule.now plan.now }
 {
-    plan_within(input_data::full_day(), day, schedule, plan)
+    plan_within(full_day(), day, schedule, plan)
 }

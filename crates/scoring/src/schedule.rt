@@ -1,59 +1,43 @@
 // The verdict on a schedule: satisfies_constraints_scheduling, and Scheduling::is_feasible.
+#![tactic(auto, using(crate::specs::Laws::verdict_unread, crate::specs::Laws::verdict_refused, crate::specs::Laws::verdict_given, input_data::specs::ReadLaws::read_ok), unfolding(crate::specs::Calls::scheduling_lent, crate::specs::Calls::schedule_lent, crate::specs::Calls::schedule_number))]
+
 ghost use Rattle.std.specs.Prelude.{◌≡◌};
 ghost use Rattle.input_data.specs.Lengths.{Within, full_day};
+ghost use Rattle.scoring.specs.Answered.{verdict_answered};
 ghost use Rattle.scoring.specs.Calls.{scheduling_lent, schedule_lent};
 
-use crate::VerdictAnswer;
-use crate::numbers::schedule_number;
-use input_data::Limits;
+use crate::reading::{NOTHING, read_schedule};
+use input_data::{Day, Limits, full_day};
+use refusal::Refusal;
 
-fn scheduling_within(limits: Limits, day: &[u8], schedule: &[u8]) -> VerdictAnswer
+fn scheduling_within(limits: Limits, day: &[u8], schedule: &[u8]) -> Result<bool, Refusal>
     requires { Within limits }
-    ensures { result ≡ scheduling_lent limits day.now schedule.now }
+    ensures { verdict_answered result ≡ scheduling_lent limits day.now schedule.now }
 {
-    let number = schedule_number(limits, day, schedule);
-    if number != 0 {
-        return VerdictAnswer {
-            number,
-            holds: false,
-        };
-    }
-    let choices = input_data::choices(day);
-    let entries = scheduling::kept(choices, schedule);
-    VerdictAnswer {
-        number,
-        holds: satisfies_constraints::scheduling_met(choices, &entries, day),
-    }
+    let day = Day::read(day)?;
+    let entries = read_schedule(limits, &day, schedule, NOTHING)?;
+    Ok(satisfies_constraints::scheduling_met(&day, &entries))
 }
 
 // Whether the schedule meets every scheduling constraint of the day.
-pub fn satisfies_constraints_scheduling(day: &[u8], schedule: &[u8]) -> VerdictAnswer
-    ensures { result ≡ scheduling_lent full_day day.now schedule.now }
+pub fn satisfies_constraints_scheduling(day: &[u8], schedule: &[u8]) -> Result<bool, Refusal>
+    ensures { verdict_answered result ≡ scheduling_lent full_day day.now schedule.now }
 {
-    scheduling_within(input_data::full_day(), day, schedule)
+    scheduling_within(full_day(), day, schedule)
 }
 
-fn schedule_within(limits: Limits, day: &[u8], schedule: &[u8]) -> VerdictAnswer
+fn schedule_within(limits: Limits, day: &[u8], schedule: &[u8]) -> Result<bool, Refusal>
     requires { Within limits }
-    ensures { result ≡ schedule_lent limits day.now schedule.now }
+    ensures { verdict_answered result ≡ schedule_lent limits day.now schedule.now }
 {
-    let number = schedule_number(limits, day, schedule);
-    if number != 0 {
-        return VerdictAnswer {
-            number,
-            holds: false,
-        };
-    }
-    let entries = scheduling::kept(input_data::choices(day), schedule);
-    VerdictAnswer {
-        number,
-        holds: feasibility::schedule_holds(day, &entries),
-    }
+    let day = Day::read(day)?;
+    let entries = read_schedule(limits, &day, schedule, NOTHING)?;
+    Ok(feasibility::schedule_holds(&day, &entries))
 }
 
 // Scheduling::is_feasible.
-pub fn schedule_is_feasible(day: &[u8], schedule: &[u8]) -> VerdictAnswer
-    ensures { result ≡ schedule_lent full_day day.now schedule.now }
+pub fn schedule_is_feasible(day: &[u8], schedule: &[u8]) -> Result<bool, Refusal>
+    ensures { verdict_answered result ≡ schedule_lent full_day day.now schedule.now }
 {
-    schedule_within(input_data::full_day(), day, schedule)
+    schedule_within(full_day(), day, schedule)
 }

@@ -1,32 +1,9 @@
-// solution.rs: which parts a solution has. Schedule and plan stand beside it.
-ghost use Rattle.std.specs.Prelude.{◌≡◌};
-ghost use Rattle.scoring.specs.Calls.{has_schedule, has_plan};
-
+// solution.rs: a solution, with the parts that its kind has.
 #[derive(Clone, Copy)]
-pub enum Solution {
+pub enum Solution<'a> {
     Invalid,
-    Scheduling,
-    Complete,
-}
-
-impl Solution {
-    pub fn has_schedule(self) -> bool
-        ensures { result ≡ has_schedule self }
-    {
-        match self {
-            Solution::Invalid => false,
-            Solution::Scheduling => true,
-            Solution::Complete => true,
-        }
-    }
-
-    pub fn has_plan(self) -> bool
-        ensures { result ≡ has_plan self }
-    {
-        match self {
-            Solution::Invalid => false,
-            Solution::Scheduling => false,
-            Solution::Complete => true,
-        }
-    }
+    // A schedule.
+    Scheduling(&'a [u8]),
+    // A schedule and a plan.
+    Complete(&'a [u8], &'a [u8]),
 }

@@ -5,4 +5,4 @@ mod plan;
 mod preferences;
 
 pub use plan::{all_filled, none_twice, part_counts};
-pub use preferences::{count_preferences, greatest_preference, minor};
+pub use preferences::{SeatPreferences, minor};

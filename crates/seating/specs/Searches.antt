@@ -1,7 +1,6 @@
 -- The result of an ask in numbers: SPEC 2.15. Definitions only.
 use Rattle.std.specs.Prelude.{ℕ, cond, eqb}
-use Rattle.preference_search.specs.declared.LimitSolveResult.{LimitSolveResult}
-use Rattle.preference_search.specs.declared.LimitSolveResult.TheVariants.{Feasible, Infeasible, Incomplete}
+use Rattle.preference_search.specs.Search.{LimitSolveResult, Feasible, Infeasible, Incomplete}
 
 -- 0 feasible, 1 infeasible; a number that is no result reads as incomplete, which claims nothing
 abbrev pub result_of : ℕ → LimitSolveResult

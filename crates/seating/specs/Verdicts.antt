@@ -2,9 +2,8 @@
 use Rattle.std.specs.Prelude.{ℕ, cond, List, eqb, Float}
 use Rattle.input_data.specs.Bytes.{flag_of}
 use Rattle.input_data.specs.Lengths.{full_day}
-use Rattle.scoring.specs.Calls.{evaluate_lent}
-use Rattle.scoring.specs.declared.ScoreAnswer.{ScoreAnswer}
-use Rattle.scoring.specs.declared.solution.Solution.{Solution}
+use Rattle.scoring.specs.Calls.{ScoreAnswer, evaluate_lent}
+use Rattle.scoring.specs.Solution.{Solution}
 use Rattle.seating.specs.Scores.{score_bits}
 use Rattle.seating.specs.declared.verdicts.ScoreBitsAnswer.{ScoreBitsAnswer}
 

@@ -16,7 +16,7 @@ pub extern "C" fn cendravoka_choosers_ordered(
 ) -> RosterAnswer
     ensures { ChoosersOrdered full_day day.now plan.now choice roster.old roster.new result }
 {
-    rosters::choosers_ordered(day, plan, choice, roster)
+    rosters::choosers_ordered(day, plan, choice, roster).into()
 }
 
 #[unsafe(no_mangle)]
@@ -28,7 +28,7 @@ pub extern "C" fn cendravoka_choices_ordered(
 ) -> RosterAnswer
     ensures { ChoicesOrdered full_day day.now plan.now chooser roster.old roster.new result }
 {
-    rosters::choices_ordered(day, plan, chooser, roster)
+    rosters::choices_ordered(day, plan, chooser, roster).into()
 }
 
 #[unsafe(no_mangle)]
@@ -40,7 +40,7 @@ pub extern "C" fn cendravoka_is_in_choice(
 ) -> InChoiceAnswer
     ensures { result ≡ in_choice_lent full_day day.now plan.now chooser choice }
 {
-    assignment::is_in_choice(day, plan, chooser, choice)
+    assignment::is_in_choice(day, plan, chooser, choice).into()
 }
 
 #[unsafe(no_mangle)]
@@ -52,5 +52,5 @@ pub extern "C" fn cendravoka_choice_of(
 ) -> ChoiceAnswer
     ensures { result ≡ choice_lent full_day day.now plan.now chooser slot }
 {
-    assignment::choice_of(day, plan, chooser, slot)
+    assignment::choice_of(day, plan, chooser, slot).into()
 }

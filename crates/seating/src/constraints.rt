@@ -33,16 +33,11 @@ fn refuse(number: u32) -> NegationNumbers
     }
 }
 
-fn keep(test: bool, n: u32) -> u32
-    ensures { result ≡ cond test n 0 }
+// What is kept where the test holds; elsewhere zero.
+fn keep<T: Copy>(test: bool, n: T, zero: T) -> T
+    ensures { result ≡ cond test n zero }
 {
-    if test { n } else { 0 }
-}
-
-fn keep_signed(test: bool, n: i32) -> i32
-    ensures { result ≡ cond test n (pos 0) }
-{
-    if test { n } else { 0 }
+    if test { n } else { zero }
 }
 
 // A negation: the kind and the extra are new, and left and target are kept.
@@ -61,8 +56,8 @@ fn negated_with(
         number: 0,
         kind,
         left,
-        target_case: keep(there, target_case),
-        target: keep(there, target),
+        target_case: keep(there, target_case, 0),
+        target: keep(there, target, 0),
         extra_case,
         extra,
     }
@@ -92,8 +87,8 @@ pub extern "C" fn cendravoka_negation(
         left,
         target_case,
         target,
-        keep(there, extra_case),
-        keep_signed(there, extra),
+        keep(there, extra_case, 0),
+        keep(there, extra, 0),
     )
 }
 

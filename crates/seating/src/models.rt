@@ -4,7 +4,7 @@ ghost use Rattle.model_buffers.specs.Buffers.{buffers};
 ghost use Rattle.flow_model.specs.Lent.{lent_input};
 ghost use Rattle.flow_model.specs.Calls.{ModelLent, ValuesLent};
 
-use model_buffers::ModelAnswer;
+use model_buffers::{LentBuffers, LentInput, ModelAnswer};
 
 #[unsafe(no_mangle)]
 pub extern "C" fn cendravoka_model(
@@ -27,13 +27,13 @@ pub extern "C" fn cendravoka_model(
         (buffers supplies.old from.old to.old max.old cost.old entries.old ends.old blocked.old)
         (buffers supplies.new from.new to.new max.new cost.new entries.new ends.new blocked.new) result }
 {
-    solve_with_limit::build_model(
-        day,
-        state,
+    let input = LentInput {
         limit,
         preferences,
         costs,
         lists,
+    };
+    let mut buffers = LentBuffers {
         supplies,
         from,
         to,
@@ -42,7 +42,8 @@ pub extern "C" fn cendravoka_model(
         entries,
         ends,
         blocked,
-    )
+    };
+    solve_with_limit::build_model(day, state, &input, &mut buffers).into()
 }
 
 #[unsafe(no_mangle)]
@@ -68,14 +69,13 @@ pub extern "C" fn cendravoka_check_values(
         (buffers supplies.old from.old to.old max.old cost.old entries.old ends.old blocked.old) plan.old
         (buffers supplies.new from.new to.new max.new cost.new entries.new ends.new blocked.new) plan.new result }
 {
-    solve_with_limit::check_values(
-        day,
-        state,
+    let input = LentInput {
         limit,
         preferences,
         costs,
         lists,
-        values,
+    };
+    let mut buffers = LentBuffers {
         supplies,
         from,
         to,
@@ -84,6 +84,6 @@ pub extern "C" fn cendravoka_check_values(
         entries,
         ends,
         blocked,
-        plan,
-    )
+    };
+    solve_with_limit::check_values(day, state, &input, values, &mut buffers, plan).into()
 }

@@ -25,12 +25,14 @@ pub struct BestBits {
     pub score: ScoreBits,
 }
 
-pub fn bits_of(s: Score) -> ScoreBits
-    ensures { result ≡ score_bits s }
-{
-    ScoreBits {
-        major: score::bits(s.major),
-        minor: score::bits(s.minor),
+impl From<Score> for ScoreBits {
+    ghost from_gives = { λ s bits. bits ≡ score_bits s };
+
+    fn from(s: Score) -> ScoreBits {
+        ScoreBits {
+            major: score::bits(s.major),
+            minor: score::bits(s.minor),
+        }
     }
 }
 
@@ -77,7 +79,7 @@ fn best_bits(answer: Result<Option<Ranked>, Refusal>) -> BestBits
             number: 0,
             found: 1,
             position: best.position as u32,
-            score: bits_of(best.score),
+            score: best.score.into(),
         },
         Ok(None) => none,
         Err(refusal) => BestBits {
@@ -87,6 +89,7 @@ fn best_bits(answer: Result<Option<Ranked>, Refusal>) -> BestBits
     }
 }
 
+#[tactic(auto, using(crate::specs::ScoresLaws::near))]
 #[unsafe(no_mangle)]
 pub extern "C" fn cendravoka_best(scores: &[f32], count: usize) -> BestBits
     ensures { result ≡ best_bits (best_in scores.now count) }
@@ -98,7 +101,7 @@ pub extern "C" fn cendravoka_best(scores: &[f32], count: usize) -> BestBits
 pub extern "C" fn cendravoka_infinite() -> ScoreBits
     ensures { result ≡ score_bits infinite_twice }
 {
-    bits_of(Score::infinite())
+    Score::infinite().into()
 }
 
 #[unsafe(no_mangle)]

@@ -2,23 +2,22 @@
 ghost use Rattle.std.specs.Prelude.{◌≡◌};
 ghost use Rattle.input_data.specs.Bytes.{flag_of};
 ghost use Rattle.input_data.specs.Lengths.{full_day};
+ghost use Rattle.preference_search.specs.Answered.{looked_at, told_by};
 ghost use Rattle.preference_search.specs.Search.{told};
 ghost use Rattle.assignment_solver.specs.Calls.{begin_lent, tell_lent};
 ghost use Rattle.seating.specs.Searches.{result_of};
 
-use preference_search::{LimitSolveResult, SearchAnswer};
+use preference_search::{SearchAnswer, Told};
 
 // A number that is no result reads as incomplete.
-fn result_of(number: u32) -> LimitSolveResult
-    ensures { result ≡ result_of number }
+fn told(number: u32, plan: &[u8]) -> Told<'_>
+    ensures { told_by result ≡ looked_at (told (result_of number) plan.now) }
 {
-    if number == 0 {
-        return LimitSolveResult::Feasible;
+    match number {
+        0 => Told::Feasible(plan),
+        1 => Told::Infeasible,
+        _ => Told::Incomplete,
     }
-    if number == 1 {
-        return LimitSolveResult::Infeasible;
-    }
-    LimitSolveResult::Incomplete
 }
 
 // `greedy` is yes where it is not 0.
@@ -33,9 +32,10 @@ pub extern "C" fn cendravoka_begin(
 ) -> SearchAnswer
     ensures { result ≡ begin_lent full_day day.now schedule.now levels.now bound (flag_of greedy) cached.now }
 {
-    assignment_solver::begin(day, schedule, levels, bound, greedy != 0, cached)
+    assignment_solver::begin(day, schedule, levels, bound, greedy != 0, cached).into()
 }
 
+#[tactic(auto, using(assignment_solver::specs::Laws::tell_looked))]
 #[unsafe(no_mangle)]
 pub extern "C" fn cendravoka_tell(
     day: &[u8],
@@ -46,5 +46,5 @@ pub extern "C" fn cendravoka_tell(
 ) -> SearchAnswer
     ensures { result ≡ tell_lent full_day day.now search.now levels.now (told (result_of res) plan.now) }
 {
-    assignment_solver::tell(day, search, levels, result_of(res), plan)
+    assignment_solver::tell(day, search, levels, told(res, plan)).into()
 }

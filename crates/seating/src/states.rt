@@ -9,7 +9,7 @@ use schedule_state::{SlotListAnswer, StateAnswer};
 pub extern "C" fn cendravoka_build(day: &[u8], schedule: &[u8], lists: &mut [u8]) -> StateAnswer
     ensures { Built full_day day.now schedule.now lists.old lists.new result }
 {
-    schedule_updates::build(day, schedule, lists)
+    schedule_updates::build(day, schedule, lists).into()
 }
 
 #[unsafe(no_mangle)]
@@ -21,7 +21,7 @@ pub extern "C" fn cendravoka_update(
 ) -> StateAnswer
     ensures { Updated full_day day.now state.now schedule.now lists.old lists.new result }
 {
-    schedule_updates::update(day, state, schedule, lists)
+    schedule_updates::update(day, state, schedule, lists).into()
 }
 
 // Where a slot's list stands in the lent buffer: a part of it cannot be returned to C.
@@ -34,5 +34,5 @@ pub extern "C" fn cendravoka_slot_list(
 ) -> SlotListAnswer
     ensures { result ≡ slot_list_answer full_day day.now state.now slot lists.now }
 {
-    schedule_updates::slot_list_answer(day, state, lists, slot)
+    schedule_updates::slot_list_part(day, state, lists, slot).into()
 }

@@ -1,5 +1,7 @@
 -- Slot lists as bytes, lengths and covered counts as sums, and the walk from one schedule to the next.
 pub mod Lists
+pub mod Parts
+pub mod PartsLaws
 pub mod ListsLaws
 pub mod Sums
 pub mod SumsLaws

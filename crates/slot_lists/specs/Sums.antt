@@ -1,6 +1,7 @@
 -- Sums per slot: of 1 they are the lengths of the lists, of the mins they are the covered counts. SPEC 5.2, 5.4. Definitions only.
-use Rattle.std.specs.Prelude.{ℕ, suc, Bool, eqb}
+use Rattle.std.specs.Prelude.{ℕ, suc, Bool, eqb, replicate}
 use Rattle.counting.specs.Fold.{gate, sum_to}
+use Rattle.slot_lists.specs.declared.SlotSums.{SlotSums}
 
 -- an entry names slot s
 abbrev pub in_slot : (ℕ → ℕ) → ℕ → ℕ → Bool
@@ -20,3 +21,6 @@ one k = 1
 -- the schedule in which no choice has a slot
 abbrev pub nowhere : ℕ → ℕ
 nowhere k = 0
+
+abbrev pub no_sums : SlotSums
+no_sums = record { lens = replicate 8 0; covered = replicate 8 0 }

@@ -8,7 +8,8 @@ use Rattle.counting.specs.Lists.{length_table, table_at}
 use Rattle.counting.specs.Sums.{sum_at_le, sum_change, sum_most, sum_zeros}
 use Rattle.counting.specs.Tests.{eq_cases, bool_cases}
 use Rattle.scheduling.specs.Schedule.{of_entry, entry_at}
-use Rattle.slot_lists.specs.Sums.{in_slot, weight_at, weighed, one, nowhere}
+use Rattle.slot_lists.specs.Sums.{in_slot, weight_at, weighed, one, nowhere, no_sums}
+use Rattle.slot_lists.specs.declared.SlotSums.{SlotSums}
 
 -- a weight joins the sum of the slot that an entry names, or leaves it
 abbrev pub added : ℕ → ℕ → List ℕ → List ℕ
@@ -33,10 +34,17 @@ pub record Sums (w f : ℕ → ℕ) (n : ℕ) (a : List ℕ) : Type 0 where
   pub long : length a ≡ 8
   pub at : (s : ℕ) → s < 8 → get_or a s 0 ≡ weighed w f n s
 
--- both sums of a schedule: the lengths a of its lists, and its covered counts c
-pub record SlotSums (mins entries : List ℕ) (n : ℕ) (a c : List ℕ) : Type 0 where
-  pub lens : Sums one (entry_at entries) n a
-  pub covered : Sums (entry_at mins) (entry_at entries) n c
+-- the lengths of a schedule's lists, and its covered counts
+pub record AreSums (w f : ℕ → ℕ) (n : ℕ) (s : SlotSums) : Type 0 where
+  pub lens : Sums one f n s.lens
+  pub covered : Sums w f n s.covered
+
+-- a choice of weight w leaves the slot that an entry names, or joins it
+abbrev pub less : ℕ → ℕ → SlotSums → SlotSums
+less e w s = record { lens = subtracted e 1 s.lens; covered = subtracted e w s.covered }
+
+abbrev pub more : ℕ → ℕ → SlotSums → SlotSums
+more e w s = record { lens = added e 1 s.lens; covered = added e w s.covered }
 
 -- nothing is summed yet
 pub record Unweighed (a c : List ℕ) : Type 0 where
@@ -77,11 +85,11 @@ weighed_put w f n s k e l =
     sum_change n (weight_at w (put f k e) s) (weight_at w f s) k l (λ j b d. ap (λ (x : ℕ). gate (eqb x (suc s)) (w j)) (put_there f k e j d))
     ∙ ap (λ (x : ℕ). weighed w f n s + gate (eqb x (suc s)) (w k)) (put_here f k e)
 
-sums_nowhere : (w : ℕ → ℕ) (n : ℕ) (a : List ℕ) → length a ≡ 8 → ((s : ℕ) → s < 8 → get_or a s 0 ≡ 0) → Sums w nowhere n a
-sums_nowhere w n a e h = record { long = e; at = λ s l. h s l ∙ sym (weighed_nowhere w n s) }
-
 pub sums_ext : {w f g : ℕ → ℕ} {n : ℕ} {a : List ℕ} → ((k : ℕ) → k < n → f k ≡ g k) → Sums w f n a → Sums w g n a
 sums_ext {w = w} {f = f} {g = g} {n = n} h p = record { long = p.long; at = λ s l. p.at s l ∙ weighed_ext w f g n s h }
+
+pub both_ext : {w f g : ℕ → ℕ} {n : ℕ} {s : SlotSums} → ((k : ℕ) → k < n → f k ≡ g k) → AreSums w f n s → AreSums w g n s
+both_ext h p = record { lens = sums_ext h p.lens; covered = sums_ext h p.covered }
 
 -- the array is the table of the sums
 pub sums_table : (w f : ℕ → ℕ) (n : ℕ) (a : List ℕ) → Sums w f n a → a ≡ table_to 8 (weighed w f n)
@@ -144,36 +152,40 @@ sums_next {w = w} {f = f} {i = i} {a = a} p h = go (f i) refl h
           (λ x y. get_or-set_other a t s (get_or a t 0 + w i) 0 x ∙ p.at s l ∙ skip s (λ z. x (omega arith)));
     }
 
-pub sums_none : (w f : ℕ → ℕ) (a : List ℕ) → length a ≡ 8 → ((s : ℕ) → s < 8 → get_or a s 0 ≡ 0) → Sums w f 0 a
-sums_none w f a e h = record { long = e; at = λ s l. h s l ∙ sym (fold_none ◌+◌ 0 (weight_at w f s)) }
-
 -- a sum of the slot that an entry names is within bounds
 pub sums_most : {w f : ℕ → ℕ} {n : ℕ} {a : List ℕ} → Sums w f n a → (b : ℕ) → ((k : ℕ) → k < n → w k ≤ b) → (e : ℕ) → e ≤ 8 → e ≢ 0 → get_or a (e - 1) 0 ≤ n * b
 sums_most {w = w} {f = f} {n = n} p b h e l d = omega (arith, p.at (e - 1) (omega arith), weighed_most w f n (e - 1) b h)
 
 -- zeros are the sums of no choice, and of the schedule in which no choice has a slot
-zeros_at : (a : List ℕ) → a ≡ replicate 8 0 → (s : ℕ) → s < 8 → get_or a s 0 ≡ 0
-zeros_at a e s l = rw e (get_or-replicate {A = ℕ} 8 s 0 0 l)
+zeros_at : {a : List ℕ} → a ≡ replicate 8 0 → (s : ℕ) → s < 8 → get_or a s 0 ≡ 0
+zeros_at e s l = rw e (get_or-replicate {A = ℕ} 8 s 0 0 l)
 
-pub unweighed_none : {a c : List ℕ} (mins entries : List ℕ) → Unweighed a c → SlotSums mins entries 0 a c
-unweighed_none {a = a} {c = c} mins entries p = record {
-  lens = sums_none one (entry_at entries) a (ap length p.lens) (zeros_at a p.lens);
-  covered = sums_none (entry_at mins) (entry_at entries) c (ap length p.covered) (zeros_at c p.covered);
-}
+pub sums_zeros : (w f : ℕ → ℕ) {a : List ℕ} → a ≡ replicate 8 0 → Sums w f 0 a
+sums_zeros w f e = record { long = ap length e; at = λ s l. zeros_at e s l ∙ sym (fold_none ◌+◌ 0 (weight_at w f s)) }
 
-pub unweighed_nowhere : {a c : List ℕ} (mins entries : List ℕ) (n : ℕ) → entry_at entries ≡ nowhere → Unweighed a c → SlotSums mins entries n a c
-unweighed_nowhere {a = a} {c = c} mins entries n e p = record {
-  lens = rw e (sums_nowhere one n a (ap length p.lens) (zeros_at a p.lens));
-  covered = rw e (sums_nowhere (entry_at mins) n c (ap length p.covered) (zeros_at c p.covered));
-}
+sums_nowhere : (w : ℕ → ℕ) (n : ℕ) → Sums w nowhere n (replicate 8 0)
+sums_nowhere w n = record { long = refl; at = λ s l. zeros_at refl s l ∙ sym (weighed_nowhere w n s) }
 
--- both sums, a choice more
-module _ {mins entries : List ℕ} {n i : ℕ} {a c : List ℕ} (h : Weighs entries mins n) (l : i < n) (p : SlotSums mins entries i a c) where
-  pub adds_length : Adds (entry_at entries i) 1 a
-  adds_length = record { small = h.small i l; fits = λ d. omega (arith, h.count, sums_most p.lens 1 (λ j b. omega arith) (entry_at entries i) (h.small i l) d) }
+pub unweighed_none : {a c : List ℕ} (mins entries : List ℕ) → Unweighed a c → AreSums (entry_at mins) (entry_at entries) 0 (record { lens = a; covered = c })
+unweighed_none mins entries p = record { lens = sums_zeros one (entry_at entries) p.lens; covered = sums_zeros (entry_at mins) (entry_at entries) p.covered }
 
-  pub adds_covered : Adds (entry_at entries i) (entry_at mins i) c
-  adds_covered = record { small = h.small i l; fits = λ d. omega (arith, h.count, h.light i l, sums_most p.covered 1000 (λ j b. h.light j (omega arith)) (entry_at entries i) (h.small i l) d) }
+pub none_summed : (w f : ℕ → ℕ) {s : SlotSums} → s ≡ no_sums → AreSums w f 0 s
+none_summed w f e = record { lens = sums_zeros one f (ap (λ t. t.lens) e); covered = sums_zeros w f (ap (λ t. t.covered) e) }
 
-  pub slot_sums_next : SlotSums mins entries (i + 1) (added (entry_at entries i) 1 a) (added (entry_at entries i) (entry_at mins i) c)
-  slot_sums_next = record { lens = sums_next p.lens (h.small i l); covered = sums_next p.covered (h.small i l) }
+pub nowhere_summed : (w : ℕ → ℕ) (n : ℕ) → AreSums w nowhere n no_sums
+nowhere_summed w n = record { lens = sums_nowhere one n; covered = sums_nowhere w n }
+
+-- a choice more
+pub adds_count : (entries : List ℕ) (i w : ℕ) {a : List ℕ} → entry_at entries i ≤ 8 → i < 32 → w ≤ 1 → Sums one (entry_at entries) i a → Adds (entry_at entries i) w a
+adds_count entries i w h l b p = record { small = h; fits = λ d. omega (arith, sums_most p 1 (λ j c. omega arith) (entry_at entries i) h d) }
+
+pub adds_weight : {entries weights : List ℕ} {n i : ℕ} {a : List ℕ} → Weighs entries weights n → i < n → Sums (entry_at weights) (entry_at entries) i a → Adds (entry_at entries i) (entry_at weights i) a
+adds_weight {entries = entries} {i = i} h l p = record { small = h.small i l; fits = λ d. omega (arith, h.count, h.light i l, sums_most p 1000 (λ j b. h.light j (omega arith)) (entry_at entries i) (h.small i l) d) }
+
+pub sums_more : {entries weights : List ℕ} {n i : ℕ} {a a' : List ℕ} → Weighs entries weights n → i < n → Sums (entry_at weights) (entry_at entries) i a
+    → a' ≡ added (entry_at entries i) (entry_at weights i) a → Sums (entry_at weights) (entry_at entries) (i + 1) a'
+sums_more {i = i} h l p e = rw e (sums_next p (h.small i l))
+
+pub both_more : {mins entries : List ℕ} {n i : ℕ} {s t : SlotSums} → Weighs entries mins n → i < n → AreSums (entry_at mins) (entry_at entries) i s
+    → t ≡ more (entry_at entries i) (entry_at mins i) s → AreSums (entry_at mins) (entry_at entries) (i + 1) t
+both_more {i = i} h l p e = rw e (record { lens = sums_next p.lens (h.small i l); covered = sums_next p.covered (h.small i l) })

@@ -7,63 +7,59 @@ use Rattle.counting.specs.Sums.{count_lt}
 use Rattle.counting.specs.Tests.{eq_cases, lt_cases, bool_cases}
 use Rattle.scheduling.specs.Schedule.{entry_at}
 use Rattle.slot_lists.specs.Lists.{place_of, left_by}
-use Rattle.slot_lists.specs.SumsLaws.{Weighs, put, added, subtracted, Sums, weighed_put, weighed_holds, sums_ext, sums_left, sums_joined, sums_most}
+use Rattle.slot_lists.specs.SumsLaws.{Weighs, put, added, subtracted, Sums, AreSums, less, more, weighed_put, weighed_holds, sums_ext, both_ext, sums_left, sums_joined, sums_most}
 use Rattle.slot_lists.specs.Sums.{in_slot, weighed, one}
 use Rattle.slot_lists.specs.Walk.{midway, length_at, leaves, joins, visit, carried}
+use Rattle.slot_lists.specs.declared.SlotSums.{SlotSums}
 
--- what one half of a visit asks: of buffer size, lengths a and covered counts c
-pub record Departs (stride e w size : ℕ) (a c : List ℕ) : Type 0 where
+-- what one half of a visit asks, of a buffer's size and of the sums
+pub record Departs (stride e w size : ℕ) (s : SlotSums) : Type 0 where
   pub small : e ≤ 8
   pub part : e ≢ 0 → stride * (e - 1) + stride ≤ size
-  pub some : e ≢ 0 → 1 ≤ get_or a (e - 1) 0
-  pub len : e ≢ 0 → get_or a (e - 1) 0 ≤ stride
-  pub sum : e ≢ 0 → w ≤ get_or c (e - 1) 0
+  pub some : e ≢ 0 → 1 ≤ get_or s.lens (e - 1) 0
+  pub len : e ≢ 0 → get_or s.lens (e - 1) 0 ≤ stride
+  pub sum : e ≢ 0 → w ≤ get_or s.covered (e - 1) 0
 
-pub record Arrives (stride e w size : ℕ) (a c : List ℕ) : Type 0 where
+pub record Arrives (stride e w size : ℕ) (s : SlotSums) : Type 0 where
   pub small : e ≤ 8
   pub part : e ≢ 0 → stride * (e - 1) + stride ≤ size
-  pub few : e ≢ 0 → get_or a (e - 1) 0 < 256
-  pub len : e ≢ 0 → get_or a (e - 1) 0 < stride
-  pub sum : e ≢ 0 → get_or c (e - 1) 0 + w < 4294967296
+  pub few : e ≢ 0 → get_or s.lens (e - 1) 0 < 256
+  pub len : e ≢ 0 → get_or s.lens (e - 1) 0 < stride
+  pub sum : e ≢ 0 → get_or s.covered (e - 1) 0 + w < 4294967296
 
 -- .. and leaves
-pub record Departed (stride e k w : ℕ) (l a c l' a' c' : List ℕ) : Type 0 where
-  pub lists : l' ≡ leaves stride e (entry_at a) k l
-  pub lens : a' ≡ subtracted e 1 a
-  pub covered : c' ≡ subtracted e w c
+pub record Departed (stride e k w : ℕ) (l : List ℕ) (s : SlotSums) (l' : List ℕ) (s' : SlotSums) : Type 0 where
+  pub lists : l' ≡ leaves stride e (entry_at s.lens) k l
+  pub sums : s' ≡ less e w s
 
-pub record Arrived (stride e k w : ℕ) (l a c l' a' c' : List ℕ) : Type 0 where
-  pub lists : l' ≡ joins stride e (entry_at a) k l
-  pub lens : a' ≡ added e 1 a
-  pub covered : c' ≡ added e w c
+pub record Arrived (stride e k w : ℕ) (l : List ℕ) (s : SlotSums) (l' : List ℕ) (s' : SlotSums) : Type 0 where
+  pub lists : l' ≡ joins stride e (entry_at s.lens) k l
+  pub sums : s' ≡ more e w s
 
--- what one visit leaves of the buffer l, the lengths a and the covered counts c
-pub record Visited (stride old new k w : ℕ) (l a c l' a' c' : List ℕ) : Type 0 where
-  pub lists : l' ≡ cond (eqb old new) l (joins stride new (entry_at (subtracted old 1 a)) k (leaves stride old (entry_at a) k l))
-  pub lens : a' ≡ cond (eqb old new) a (added new 1 (subtracted old 1 a))
-  pub covered : c' ≡ cond (eqb old new) c (added new w (subtracted old w c))
+-- what one visit leaves of the buffer and the sums
+pub record Visited (stride old new k w : ℕ) (l : List ℕ) (s : SlotSums) (l' : List ℕ) (s' : SlotSums) : Type 0 where
+  pub lists : l' ≡ cond (eqb old new) l (joins stride new (entry_at (less old w s).lens) k (leaves stride old (entry_at s.lens) k l))
+  pub sums : s' ≡ cond (eqb old new) s (more new w (less old w s))
 
 -- what a visit asks: of both halves, the second after the first
-pub record Visits (stride old new w size : ℕ) (a c : List ℕ) : Type 0 where
-  pub departs : old ≢ new → Departs stride old w size a c
-  pub arrives : old ≢ new → Arrives stride new w size (subtracted old 1 a) (subtracted old w c)
+pub record Visits (stride old new w size : ℕ) (s : SlotSums) : Type 0 where
+  pub departs : old ≢ new → Departs stride old w size s
+  pub arrives : old ≢ new → Arrives stride new w size (less old w s)
 
 -- what the walk asks: schedules of 8 slots at most, whose parts are in the buffer, light choices, and the sums of the old schedule
-pub record Carries (stride n : ℕ) (old new mins : List ℕ) (size : ℕ) (a c : List ℕ) : Type 0 where
+pub record Carries (stride n : ℕ) (old new mins : List ℕ) (size : ℕ) (s : SlotSums) : Type 0 where
   pub count : n ≤ 32
   pub room : n ≤ stride
   pub from : Weighs old mins n
   pub to : Weighs new mins n
   pub from_part : (k : ℕ) → k < n → entry_at old k ≢ 0 → stride * (entry_at old k - 1) + stride ≤ size
   pub to_part : (k : ℕ) → k < n → entry_at new k ≢ 0 → stride * (entry_at new k - 1) + stride ≤ size
-  pub lens : Sums one (entry_at old) n a
-  pub covered : Sums (entry_at mins) (entry_at old) n c
+  pub sums : AreSums (entry_at mins) (entry_at old) n s
 
--- .. and leaves: the buffer by the definition, and the lengths and covered counts of the new schedule
-pub record ListsCarried (stride n : ℕ) (old new mins l l' a' c' : List ℕ) : Type 0 where
+-- .. and leaves: the buffer by the definition, and the sums of the new schedule
+pub record ListsCarried (stride n : ℕ) (old new mins l l' : List ℕ) (s : SlotSums) : Type 0 where
   pub lists : l' ≡ carried stride (entry_at old) (entry_at new) n l n
-  pub lens : Sums one (entry_at new) n a'
-  pub covered : Sums (entry_at mins) (entry_at new) n c'
+  pub sums : AreSums (entry_at mins) (entry_at new) n s
 
 -- ---- laws
 
@@ -96,19 +92,23 @@ midway_same old new k j q = eq_cases j k
     (λ p e. rw (le-ltb j k (omega arith), lt-ltb j (k + 1) (omega arith)) (ap old p ∙ q ∙ ap new (sym p)))
     (λ p e. lt_cases j k (λ b t. rw (t, lt-ltb j (k + 1) (omega arith))) (λ b t. rw (t, le-ltb j (k + 1) (omega arith))))
 
-module _ {w : ℕ → ℕ} (old new : ℕ → ℕ) {n : ℕ} {a : List ℕ} (k : ℕ) (l : k < n) (ho : old k ≤ 8) (hn : new k ≤ 8) (p : Sums w (midway old new k) n a) where
-  -- the sums follow a choice that moves
-  sums_between : Sums w (put (midway old new k) k 0) n (subtracted (old k) (w k) a)
-  sums_between = sums_left p k l (old k) (midway_here old new k) ho
+-- the sums follow a choice that moves
+module _ (old new : ℕ → ℕ) {n : ℕ} (k : ℕ) (l : k < n) (ho : old k ≤ 8) (hn : new k ≤ 8) where
+  sums_between : {w : ℕ → ℕ} {a : List ℕ} → Sums w (midway old new k) n a → Sums w (put (midway old new k) k 0) n (subtracted (old k) (w k) a)
+  sums_between p = sums_left p k l (old k) (midway_here old new k) ho
 
-  sums_moved : Sums w (midway old new (k + 1)) n (added (new k) (w k) (subtracted (old k) (w k) a))
-  sums_moved = sums_ext (λ j b. midway_more old new k j) (sums_joined sums_between k l (new k) (rw (eq-eqb k k refl)) hn)
+  sums_moved : {w : ℕ → ℕ} {a : List ℕ} → Sums w (midway old new k) n a → Sums w (midway old new (k + 1)) n (added (new k) (w k) (subtracted (old k) (w k) a))
+  sums_moved p = sums_ext (λ j b. midway_more old new k j) (sums_joined (sums_between p) k l (new k) (rw (eq-eqb k k refl)) hn)
 
-  -- .. and one that does not
-  sums_visited : {a' : List ℕ} → a' ≡ cond (eqb (old k) (new k)) a (added (new k) (w k) (subtracted (old k) (w k) a)) → Sums w (midway old new (k + 1)) n a'
-  sums_visited {a' = a'} q = eq_cases (old k) (new k)
-      (λ e t. let r : a' ≡ a = q ∙ rw t in rw r (sums_ext (λ j b. midway_same old new k j e) p))
-      (λ e t. let r : a' ≡ added (new k) (w k) (subtracted (old k) (w k) a) = q ∙ rw t in rw r sums_moved)
+  module _ {w : ℕ → ℕ} {s : SlotSums} (p : AreSums w (midway old new k) n s) where
+    both_between : AreSums w (put (midway old new k) k 0) n (less (old k) (w k) s)
+    both_between = record { lens = sums_between p.lens; covered = sums_between p.covered }
+
+    -- .. and one that does not
+    both_visited : {s' : SlotSums} → s' ≡ cond (eqb (old k) (new k)) s (more (new k) (w k) (less (old k) (w k) s)) → AreSums w (midway old new (k + 1)) n s'
+    both_visited q = rw q (eq_cases (old k) (new k)
+        (λ e t. rw t (both_ext (λ j b. midway_same old new k j e) p))
+        (λ e t. rw t (record { lens = sums_moved p.lens; covered = sums_moved p.covered })))
 
 -- ---- the code's step is the definition's
 
@@ -163,8 +163,8 @@ unfolding carried fold_to
 carried_length stride old new n l zero = refl
 carried_length stride old new n l (suc i) = visit_length stride old new n (carried stride old new n l i) i ∙ carried_length stride old new n l i
 
-module _ {stride n size : ℕ} {old new mins a₀ c₀ a c : List ℕ} (h : Carries stride n old new mins size a₀ c₀) (k : ℕ) (l : k < n)
-    (pa : Sums one (midway (entry_at old) (entry_at new) k) n a) (pc : Sums (entry_at mins) (midway (entry_at old) (entry_at new) k) n c) where
+module _ {stride n size : ℕ} {old new mins : List ℕ} {s₀ s : SlotSums} (h : Carries stride n old new mins size s₀) (k : ℕ) (l : k < n)
+    (p : AreSums (entry_at mins) (midway (entry_at old) (entry_at new) k) n s) where
   abbrev f : ℕ → ℕ
   f = midway (entry_at old) (entry_at new) k
 
@@ -174,85 +174,74 @@ module _ {stride n size : ℕ} {old new mins a₀ c₀ a c : List ℕ} (h : Carr
   in_slot_lem : entry_at old k ≢ 0 → f k ≡ suc (entry_at old k - 1)
   in_slot_lem d = midway_here (entry_at old) (entry_at new) k ∙ omega arith
 
-  departs : Departs stride (entry_at old k) (entry_at mins k) size a c
+  departs : Departs stride (entry_at old k) (entry_at mins k) size s
   departs = record {
     small = h.from.small k l;
     part = h.from_part k l;
-    some = λ d. omega (arith, pa.at (entry_at old k - 1) (omega (arith, h.from.small k l)), weighed_holds one f n (entry_at old k - 1) k l (in_slot_lem d));
-    len = λ d. omega (arith, h.room, sums_most pa 1 light (entry_at old k) (h.from.small k l) d);
-    sum = λ d. omega (arith, pc.at (entry_at old k - 1) (omega (arith, h.from.small k l)), weighed_holds (entry_at mins) f n (entry_at old k - 1) k l (in_slot_lem d));
+    some = λ d. omega (arith, p.lens.at (entry_at old k - 1) (omega (arith, h.from.small k l)), weighed_holds one f n (entry_at old k - 1) k l (in_slot_lem d));
+    len = λ d. omega (arith, h.room, sums_most p.lens 1 light (entry_at old k) (h.from.small k l) d);
+    sum = λ d. omega (arith, p.covered.at (entry_at old k - 1) (omega (arith, h.from.small k l)), weighed_holds (entry_at mins) f n (entry_at old k - 1) k l (in_slot_lem d));
   }
 
-  pa' : Sums one (put f k 0) n (subtracted (entry_at old k) 1 a)
-  pa' = sums_between (entry_at old) (entry_at new) k l (h.from.small k l) (h.to.small k l) pa
+  p' : AreSums (entry_at mins) (put f k 0) n (less (entry_at old k) (entry_at mins k) s)
+  p' = both_between (entry_at old) (entry_at new) k l (h.from.small k l) (h.to.small k l) p
 
-  pc' : Sums (entry_at mins) (put f k 0) n (subtracted (entry_at old k) (entry_at mins k) c)
-  pc' = sums_between (entry_at old) (entry_at new) k l (h.from.small k l) (h.to.small k l) pc
+  fewer : (t : ℕ) → weighed one (put f k 0) n t < n
+  fewer t = count_lt n (in_slot (put f k 0) t) k l (rw (eq-eqb k k refl) (ne_eqb 0 (suc t) (λ z. omega arith)))
 
-  fewer : (s : ℕ) → weighed one (put f k 0) n s < n
-  fewer s = count_lt n (in_slot (put f k 0) s) k l (rw (eq-eqb k k refl) (ne_eqb 0 (suc s) (λ z. omega arith)))
-
-  arrives : Arrives stride (entry_at new k) (entry_at mins k) size (subtracted (entry_at old k) 1 a) (subtracted (entry_at old k) (entry_at mins k) c)
+  arrives : Arrives stride (entry_at new k) (entry_at mins k) size (less (entry_at old k) (entry_at mins k) s)
   arrives = record {
     small = h.to.small k l;
     part = h.to_part k l;
-    few = λ d. omega (arith, h.count, sums_most pa' 1 light (entry_at new k) (h.to.small k l) d);
-    len = λ d. omega (arith, h.room, pa'.at (entry_at new k - 1) (omega (arith, h.to.small k l)), fewer (entry_at new k - 1));
-    sum = λ d. omega (arith, h.count, h.to.light k l, sums_most pc' 1000 h.to.light (entry_at new k) (h.to.small k l) d);
+    few = λ d. omega (arith, h.count, sums_most p'.lens 1 light (entry_at new k) (h.to.small k l) d);
+    len = λ d. omega (arith, h.room, p'.lens.at (entry_at new k - 1) (omega (arith, h.to.small k l)), fewer (entry_at new k - 1));
+    sum = λ d. omega (arith, h.count, h.to.light k l, sums_most p'.covered 1000 h.to.light (entry_at new k) (h.to.small k l) d);
   }
 
-  -- what the walk asks and its sums give what a visit asks
-  visits : Visits stride (entry_at old k) (entry_at new k) (entry_at mins k) size a c
-  visits = record { departs = λ d. departs; arrives = λ d. arrives }
-
 -- the second half of a visit, after the first
-pub arrives_after : {stride e e' k w : ℕ} {l a c l' a' c' : List ℕ} → Departed stride e k w l a c l' a' c' → Arrives stride e' w (length l) (subtracted e 1 a) (subtracted e w c) → Arrives stride e' w (length l') a' c'
-arrives_after {stride = stride} {e = e} {k = k} {l = l} {a = a} {l' = l'} p q =
-    let s : length l' ≡ length l = ap length p.lists ∙ leaves_length stride e (entry_at a) k l in
-    rw (s, p.lens, p.covered) q
+pub arrives_after : {stride e e' k w : ℕ} {l l' : List ℕ} {s s' : SlotSums} → Departed stride e k w l s l' s' → Arrives stride e' w (length l) (less e w s) → Arrives stride e' w (length l') s'
+arrives_after {stride = stride} {e = e} {k = k} {l = l} {s = s} p q =
+    rw (p.sums, p.lists, leaves_length stride e (entry_at s.lens) k l) q
 
-pub visited_by : {stride e e' k w : ℕ} {l a c l₁ a₁ c₁ l₂ a₂ c₂ : List ℕ} → e ≢ e' → Departed stride e k w l a c l₁ a₁ c₁ → Arrived stride e' k w l₁ a₁ c₁ l₂ a₂ c₂ → Visited stride e e' k w l a c l₂ a₂ c₂
+pub visited_by : {stride e e' k w : ℕ} {l l₁ l₂ : List ℕ} {s s₁ s₂ : SlotSums} → e ≢ e' → Departed stride e k w l s l₁ s₁ → Arrived stride e' k w l₁ s₁ l₂ s₂ → Visited stride e e' k w l s l₂ s₂
 visited_by {e = e} {e' = e'} d p q =
     let t = ne_eqb e e' d in
-    record { lists = q.lists ∙ rw (t, p.lens, p.lists); lens = q.lens ∙ rw (t, p.lens); covered = q.covered ∙ rw (t, p.covered) }
+    record { lists = q.lists ∙ rw (t, p.sums, p.lists); sums = q.sums ∙ rw (t, p.sums) }
 
 -- ---- the walk once the choices below i have been visited
 
-pub record Walking (stride n : ℕ) (old new mins l : List ℕ) (i : ℕ) (l' a c : List ℕ) : Type 0 where
+pub record Walking (stride n : ℕ) (old new mins l : List ℕ) (i : ℕ) (l' : List ℕ) (s : SlotSums) : Type 0 where
   pub inside : i ≤ n
   pub lists : l' ≡ carried stride (entry_at old) (entry_at new) n l i
-  pub lens : Sums one (midway (entry_at old) (entry_at new) i) n a
-  pub covered : Sums (entry_at mins) (midway (entry_at old) (entry_at new) i) n c
+  pub sums : AreSums (entry_at mins) (midway (entry_at old) (entry_at new) i) n s
 
-pub walking_start : {stride n : ℕ} {old new mins l a c : List ℕ} → Carries stride n old new mins (length l) a c → Walking stride n old new mins l 0 l a c
+pub walking_start : {stride n : ℕ} {old new mins l : List ℕ} {s : SlotSums} → Carries stride n old new mins (length l) s → Walking stride n old new mins l 0 l s
 walking_start {stride = stride} {n = n} {old = old} {new = new} {l = l} h = record {
   inside = omega arith;
   lists = sym (carried_none stride (entry_at old) (entry_at new) n l);
-  lens = sums_ext (λ j b. sym (midway_first (entry_at old) (entry_at new) j)) h.lens;
-  covered = sums_ext (λ j b. sym (midway_first (entry_at old) (entry_at new) j)) h.covered;
+  sums = both_ext (λ j b. sym (midway_first (entry_at old) (entry_at new) j)) h.sums;
 }
 
-pub walking_length : {stride n : ℕ} {old new mins l : List ℕ} {i : ℕ} {l' a c : List ℕ} → Walking stride n old new mins l i l' a c → length l' ≡ length l
+walking_length : {stride n : ℕ} {old new mins l : List ℕ} {i : ℕ} {l' : List ℕ} {s : SlotSums} → Walking stride n old new mins l i l' s → length l' ≡ length l
 walking_length {stride = stride} {n = n} {old = old} {new = new} {l = l} {i = i} w = ap length w.lists ∙ carried_length stride (entry_at old) (entry_at new) n l i
 
-module _ {stride n : ℕ} {old new mins l a₀ c₀ : List ℕ} (h : Carries stride n old new mins (length l) a₀ c₀) {i : ℕ} {l' a c : List ℕ} (w : Walking stride n old new mins l i l' a c) (b : i < n) where
-  pub walking_visits : Visits stride (entry_at old i) (entry_at new i) (entry_at mins i) (length l') a c
-  walking_visits = rw (walking_length w) (visits h i b w.lens w.covered)
+module _ {stride n : ℕ} {old new mins l : List ℕ} {s₀ : SlotSums} (h : Carries stride n old new mins (length l) s₀) {i : ℕ} {l' : List ℕ} {s : SlotSums}
+    (w : Walking stride n old new mins l i l' s) (b : i < n) where
+  pub walking_visits : Visits stride (entry_at old i) (entry_at new i) (entry_at mins i) (length l') s
+  walking_visits = rw (walking_length w) (record { departs = λ d. departs h i b w.sums; arrives = λ d. arrives h i b w.sums })
 
-  pub walking_more : {l'' a'' c'' : List ℕ} → Visited stride (entry_at old i) (entry_at new i) i (entry_at mins i) l' a c l'' a'' c'' → Walking stride n old new mins l (i + 1) l'' a'' c''
+  pub walking_more : {l'' : List ℕ} {s' : SlotSums} → Visited stride (entry_at old i) (entry_at new i) i (entry_at mins i) l' s l'' s' → Walking stride n old new mins l (i + 1) l'' s'
   walking_more {l'' = l''} v = record {
     inside = omega arith;
-    lists = visit_is (entry_at old) (entry_at new) i b (h.from.small i b) (h.to.small i b) w.lens stride l' l'' v.lists
+    lists = visit_is (entry_at old) (entry_at new) i b (h.from.small i b) (h.to.small i b) w.sums.lens stride l' l'' v.lists
         ∙ ap (λ x. visit stride (entry_at old) (entry_at new) n x i) w.lists ∙ sym (carried_more stride (entry_at old) (entry_at new) n l i);
-    lens = sums_visited (entry_at old) (entry_at new) i b (h.from.small i b) (h.to.small i b) w.lens v.lens;
-    covered = sums_visited (entry_at old) (entry_at new) i b (h.from.small i b) (h.to.small i b) w.covered v.covered;
+    sums = both_visited (entry_at old) (entry_at new) i b (h.from.small i b) (h.to.small i b) w.sums v.sums;
   }
 
-pub walking_all : {stride n : ℕ} {old new mins l : List ℕ} {i : ℕ} {l' a c : List ℕ} → Walking stride n old new mins l i l' a c → n ≤ i → ListsCarried stride n old new mins l l' a c
+pub walking_all : {stride n : ℕ} {old new mins l : List ℕ} {i : ℕ} {l' : List ℕ} {s : SlotSums} → Walking stride n old new mins l i l' s → n ≤ i → ListsCarried stride n old new mins l l' s
 walking_all {stride = stride} {n = n} {old = old} {new = new} {l = l} {i = i} w b =
     let e : i ≡ n = omega (arith, w.inside) in
     record {
       lists = w.lists ∙ ap (λ k. carried stride (entry_at old) (entry_at new) n l k) e;
-      lens = sums_ext (λ j q. rw e (midway_last (entry_at old) (entry_at new) n j q)) w.lens;
-      covered = sums_ext (λ j q. rw e (midway_last (entry_at old) (entry_at new) n j q)) w.covered;
+      sums = both_ext (λ j q. rw e (midway_last (entry_at old) (entry_at new) n j q)) w.sums;
     }

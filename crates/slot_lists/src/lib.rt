@@ -2,35 +2,60 @@
 // and whether the lists hold a schedule.
 #![tactic(auto)]
 
+mod lists;
+
 ghost use Rattle.std.specs.Prelude.{◌≡◌, ◌+◌, ◌*◌, ◌<◌, ◌≤◌, length, set};
 ghost use Rattle.scheduling.specs.Schedule.{entry_at};
-ghost use Rattle.counting.specs.Search.{first_to};
-ghost use Rattle.slot_lists.specs.ListsLaws.{is_entry, removed};
+ghost use Rattle.slot_lists.specs.ListsLaws.{place_in, removed};
 ghost use Rattle.slot_lists.specs.Lists.{left_by};
-ghost use Rattle.slot_lists.specs.SumsLaws.{added, Sums, Adds, Weighs, Unweighed, SlotSums};
+ghost use Rattle.slot_lists.specs.Sums.{no_sums};
+ghost use Rattle.slot_lists.specs.SumsLaws.{added, Sums, Adds, Weighs, AreSums};
 ghost use Rattle.slot_lists.specs.Held.{misheld};
 ghost use Rattle.slot_lists.specs.Marks.{Looks, Noted};
 
-// The place of a choice among the first `len` entries, or `len` where it is not there.
-pub fn place(part: &[u8], len: usize, choice: u8) -> usize
+pub use lists::SlotLists;
+use scheduling::slot_in;
+
+// The lengths of the slots' lists, and their covered counts.
+#[derive(Clone, Copy)]
+pub struct SlotSums {
+    pub lens: [u32; 8],
+    pub covered: [u32; 8],
+}
+
+impl SlotSums {
+    // The sums where no choice has a slot.
+    pub fn none() -> SlotSums
+        ensures { result ≡ no_sums }
+    {
+        SlotSums {
+            lens: [0; 8],
+            covered: [0; 8],
+        }
+    }
+}
+
+// The place of a choice among the first `len` entries, if it is there.
+#[tactic(auto, using(crate::specs::ListsLaws::place_at, crate::specs::ListsLaws::place_none))]
+fn place(part: &[u8], len: usize, choice: u8) -> Option<usize>
     requires { len ≤ length part.now }
-    ensures { result ≡ first_to len (is_entry part.now choice) }
+    ensures { result ≡ place_in len choice part.now }
 {
     for i in 0..len {
         if part[i] == choice {
-            return i;
+            return Some(i);
         }
     }
-    len
+    None
 }
 
 // A choice leaves a list of `len` entries. The last one moves into its place, and nothing else is written.
+#[tactic(auto, using(crate::specs::ListsLaws::place_below, crate::specs::ListsLaws::removed_at, crate::specs::ListsLaws::removed_none))]
 fn remove(part: &mut [u8], len: usize, choice: u8)
     requires { len ≤ length part.old }
     ensures { part.new ≡ removed len choice part.old }
 {
-    let at = place(part, len, choice);
-    if at < len {
+    if let Some(at) = place(part, len, choice) {
         part[at] = part[len - 1];
     }
 }
@@ -57,13 +82,13 @@ pub fn add(sums: &mut [u32; 8], entry: u8, weight: u32)
     requires { Adds entry weight sums.old }
     ensures { sums.new ≡ added entry weight sums.old }
 {
-    if entry == 0 {
-        return;
+    if let Some(slot) = slot_in(entry) {
+        sums[slot] += weight;
     }
-    sums[entry as usize - 1] += weight;
 }
 
 // The sums of the weights of each slot's choices.
+#[tactic(auto, using(crate::specs::SumsLaws::adds_weight))]
 pub fn sums<'a>(entries: &'a [u8; 32], weights: &'a [u32; 32], n: usize) -> [u32; 8]
     requires { Weighs entries.now weights.now n }
     ensures { Sums (entry_at weights.now) (entry_at entries.now) n result }
@@ -75,21 +100,20 @@ pub fn sums<'a>(entries: &'a [u8; 32], weights: &'a [u32; 32], n: usize) -> [u32
     out
 }
 
-// The lengths of the slots' lists and the covered counts in one walk, in arrays of zeros.
-pub fn weigh(
-    lens: &mut [u32; 8],
-    covered: &mut [u32; 8],
-    entries: &[u8; 32],
-    mins: &[u32; 32],
-    n: usize,
-)
-    requires { Unweighed lens.old covered.old × Weighs entries.now mins.now n }
-    ensures { SlotSums mins.now entries.now n lens.new covered.new }
+// The lengths of the slots' lists and the covered counts in one walk. Inlined: a copy of what was just counted
+// would wait for it.
+#[tactic(auto, using(crate::specs::SumsLaws::adds_count, crate::specs::SumsLaws::adds_weight))]
+#[inline(always)]
+pub fn weigh<'a>(entries: &'a [u8; 32], mins: &'a [u32; 32], n: usize) -> SlotSums
+    requires { Weighs entries.now mins.now n }
+    ensures { AreSums (entry_at mins.now) (entry_at entries.now) n result }
 {
+    let mut sums = SlotSums::none();
     for i in 0..n {
-        add(lens, entries[i], 1);
-        add(covered, entries[i], mins[i]);
+        add(&mut sums.lens, entries[i], 1);
+        add(&mut sums.covered, entries[i], mins[i]);
     }
+    sums
 }
 
 // The choices of a list of `len` entries, which begins at `start`, are marked with its slot's entry. A

@@ -1,54 +1,40 @@
 -- What the calls leave, refused or done. Assumes nothing.
-use Rattle.std.specs.Prelude.{ℕ, ◌≡◌, Bool, false, List, ◌≢◌, eqb, ℤ}
+use Rattle.std.specs.Prelude.{ℕ, ◌≡◌, refl, false, List, Ok, Err, eqb, ℤ}
 use Rattle.std.proofs.Common.{sym, ◌∙◌, ne_eqb}
 use Rattle.counting.specs.Written.{written}
-use Rattle.input_data.specs.Bytes.{lent_number}
+use Rattle.refusal.specs.Laws.{some_number}
+use Rattle.refusal.specs.Number.{number}
+use Rattle.refusal.specs.declared.Refusal.{Refusal}
 use Rattle.input_data.specs.declared.Limits.{Limits}
-use Rattle.schedule_state.specs.Bytes.{not_state}
 use Rattle.model_buffers.specs.Answers.{model_refused, counted_answer}
-use Rattle.model_buffers.specs.Buffers.{Buffers, lengths_of}
-use Rattle.model_buffers.specs.Lengths.{short_values}
-use Rattle.model_buffers.specs.declared.Counts.{Counts}
-use Rattle.model_buffers.specs.declared.ModelAnswer.{ModelAnswer}
+use Rattle.model_buffers.specs.Lent.{held}
+use Rattle.model_buffers.specs.declared.buffers.LentBuffers.{LentBuffers}
 use Rattle.edge_values.specs.Values.{values_number}
-use Rattle.plans.specs.Model.{ModelInput, network_of, plan_of, enter_number}
+use Rattle.plans.specs.Model.{ModelInput, network_of, plan_of}
+use Rattle.flow_model.specs.Calls.{model_counts, ModelBuilt, ValuesLeaves}
 use Rattle.flow_model.specs.Lent.{ModelMade, EnteredWith, EnteredLent}
-use Rattle.flow_model.specs.declared.Entered.{Entered}
-use Rattle.flow_model.specs.Calls.{model_counts, ModelLeaves, ValuesLeaves}
+use Rattle.flow_model.specs.Made.{held_made, same_made}
+use Rattle.flow_model.specs.declared.FlowModel.{FlowModel}
+
+-- no refusal's number is 0
+not_zero : (r : Refusal) → eqb (number r) 0 ≡ false
+not_zero r = ne_eqb (number r) 0 (some_number r)
 
 -- the answer that a made model gives
-answer_made : {l : Limits} {x : ModelInput} {b b' : Buffers} {index : List ℕ} {k : Counts} → ModelMade l x b b' index k → counted_answer k ≡ model_counts l x
+answer_made : {l : Limits} {x : ModelInput} {b b' : LentBuffers} {m : FlowModel} → ModelMade l x b b' m → counted_answer m.counts ≡ model_counts l x
 unfolding model_counts
-answer_made m = rw (m.edges, m.entries, m.groups, m.blocked)
+answer_made p = rw (p.edges, p.entries, p.groups, p.blocked) refl
 
--- the test of the values' and the plan's lengths, as the number has it
-pub short_is : (l : Limits) (day st : List ℕ) {x : ModelInput} {short : Bool} {b b' : Buffers} {index : List ℕ} {e : Entered} (values plan : ℕ) → short ≡ short_values l values plan
-    → EnteredLent l day st x short b b' index e → EnteredWith (lent_number l day (not_state st) (enter_number l x (lengths_of b) values plan)) l x b b' index e
-short_is l day st values plan s p = rw s at p
+module _ {l : Limits} {day st : List ℕ} {x : ModelInput} {b b' : LentBuffers} where
+  -- a call that builds a model
+  pub build_done : {m : FlowModel} → EnteredLent l day st x false b b' (Ok m) → ModelBuilt l day st x b b' (Ok m.counts)
+  build_done p = record { lent = rw (← p.number) (record { gives = answer_made p.made; leaves = held_made p.made }); same = same_made p.made }
 
-module _ {m : ℕ} {l : Limits} {x : ModelInput} {b b' : Buffers} {index : List ℕ} {e : Entered} (p : EnteredWith m l x b b' index e) where
-  not_zero : e.number ≢ 0 → eqb m 0 ≡ false
-  not_zero d = ne_eqb m 0 (λ z. d (p.number ∙ z))
+-- a call that checks values
+module _ {n : ℕ} {l : Limits} {x : ModelInput} {b b' : LentBuffers} {m : FlowModel} (p : EnteredWith n l x b b' (Ok m)) {vs : List ℤ} {plan : List ℕ} where
+  -- refused by 14 to 17: the model is there, the plan is not touched
+  pub values_refused : (r : Refusal) → number r ≡ values_number (network_of l x) vs → ValuesLeaves n l x vs (held b) plan (held b') plan (model_refused (number r))
+  values_refused r q = rw (← p.number) (record { gives = rw (← q, not_zero r) refl; leaves = held_made p.made; decodes = rw (← q, not_zero r) refl })
 
-  zero_is : e.number ≡ 0 → m ≡ 0
-  zero_is z = sym p.number ∙ z
-
-  pub model_refused_lem : {r : ModelAnswer} → e.number ≢ 0 → r ≡ model_refused e.number → ModelLeaves m l x b b' r
-  model_refused_lem d q = record { gives = q ∙ rw (not_zero d, p.number); leaves = p.kept d ∙ rw (not_zero d) }
-
-  pub model_done : {r : ModelAnswer} → e.number ≡ 0 → r ≡ counted_answer e.counts → ModelLeaves m l x b b' r
-  model_done z q = record { gives = q ∙ answer_made (p.made z) ∙ rw (zero_is z); leaves = (p.made z).buffers ∙ rw (zero_is z) }
-
-  module _ {vs : List ℤ} {plan : List ℕ} where
-    -- refused before a model is built
-    pub call_refused : {r : ModelAnswer} → e.number ≢ 0 → r ≡ model_refused e.number → ValuesLeaves m l x vs b plan b' plan r
-    call_refused d q = record { gives = q ∙ rw (not_zero d, not_zero d, p.number); leaves = p.kept d ∙ rw (not_zero d); decodes = rw (not_zero d, not_zero d) }
-
-    -- refused by 14 to 17: the model is there, the plan is not touched
-    pub values_refused : {n : ℕ} {r : ModelAnswer} → e.number ≡ 0 → n ≡ values_number (network_of l x) vs → n ≢ 0 → r ≡ model_refused n → ValuesLeaves m l x vs b plan b' plan r
-    values_refused z q d a =
-        let f : eqb (values_number (network_of l x) vs) 0 ≡ false = ne_eqb _ 0 (λ y. d (q ∙ y)) in
-        record { gives = a ∙ rw (zero_is z, f, q); leaves = (p.made z).buffers ∙ rw (zero_is z); decodes = rw (zero_is z, f) }
-
-    pub values_done : {plan' : List ℕ} {r : ModelAnswer} → e.number ≡ 0 → values_number (network_of l x) vs ≡ 0 → plan' ≡ written plan 0 (plan_of l x vs) → r ≡ counted_answer e.counts → ValuesLeaves m l x vs b plan b' plan' r
-    values_done z q a c = record { gives = c ∙ answer_made (p.made z) ∙ rw (zero_is z, q); leaves = (p.made z).buffers ∙ rw (zero_is z); decodes = a ∙ rw (zero_is z, q) }
+  pub values_done : {plan' : List ℕ} → 0 ≡ values_number (network_of l x) vs → plan' ≡ written plan 0 (plan_of l x vs) → ValuesLeaves n l x vs (held b) plan (held b') plan' (counted_answer m.counts)
+  values_done q r = rw (← p.number) (record { gives = answer_made p.made ∙ rw (← q) refl; leaves = held_made p.made; decodes = r ∙ rw (← q) refl })

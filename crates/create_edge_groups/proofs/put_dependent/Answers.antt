@@ -1,23 +1,54 @@
-use Rattle.std.proofs.Common.{arith}
-use Rattle.edge_groups.specs.Names.{dependent_names}
-use Rattle.edge_groups.specs.Stored.{groups_eq, groups_start, groups_step, groups_all}
-use Rattle.edge_groups.specs.Bounds.{room_after, groups_few, start_none, start_more, start_within}
+use Rattle.std.proofs.Common.{◌<◌, ◌≡◌, arith, rules}
+use Rattle.counting.specs.Fold.{table_to}
+use Rattle.scheduling.specs.Schedule.{entry_at}
+use Rattle.model_buffers.specs.Appending.{append_start, append_step, append_all, append_eq}
 use Rattle.mip_flow.specs.IndexLaws.{number_at}
-use Rattle.edge_groups.specs.Grouping.{group_at, members_of}
+use Rattle.edge_groups.specs.Bounds.{room_after, groups_few, start_none, start_more, start_within}
+use Rattle.edge_groups.specs.Grouping.{part_ends, part_long, part_choices, part_names}
+use Rattle.edge_groups.specs.Names.{dependent_names}
 use Rattle.create_edge_groups.proofs.put_dependent.Goals as goal
 
 pub loop-g-init : goal.loop-g-init
-loop-g-init c = (start_none _, groups_start _ _ _ _)
+loop-g-init c = (start_none _, append_start _ _ _)
 
-pub put_group-to-requires : goal.put_group-to-requires
-put_group-to-requires c = let e = c in let a = e.args in let g = c.loop-g.g in let v = c.loop-g.invariant in let t = c.loop-g-test.true in let w = start_within a.lengths.now g a.groups t in (e.requires.0, e.requires.1.choosers, members_of g e.requires.1 t v.0, room_after _ _ v.1 e.requires.2 (groups_few (number_at a.index.now) a.sizes a.schedule.now a.lengths.now a.members.now e.requires.1.choosers g) (omega (arith, w, e.requires.1.few)) (omega (arith, t, e.requires.1.count)))
+pub overflow_add-end : goal.overflow_add-end
+overflow_add-end c = omega (arith, part_ends c.requires.1 (omega arith) c.loop-g.invariant.0 c.group_length.ensures.0)
 
-pub overflow_add-start : goal.overflow_add-start
-overflow_add-start c = let e = c in omega (arith, start_within e.args.lengths.now c.loop-g.g e.args.groups c.loop-g-test.true, c.loop-g.invariant.0, e.requires.1.few)
+pub offset_bounds-members-start : goal.offset_bounds-members-start
+offset_bounds-members-start c = omega (arith, part_ends c.requires.1 (omega arith) c.loop-g.invariant.0 c.group_length.ensures.0)
+
+pub slice_bounds-put_group-end : goal.slice_bounds-put_group-end
+slice_bounds-put_group-end c = omega (arith, part_ends c.requires.1 (omega arith) c.loop-g.invariant.0 c.group_length.ensures.0)
+
+pub put_group-requires : goal.put_group-requires
+put_group-requires c =
+    let e = c in
+    let a = e.args in
+    let d = a.day.now in
+    let g = e.loop-g.g in
+    let v = e.loop-g.invariant in
+    let p = e.requires in
+    let b : g < d.groups = omega arith in
+    let m : e.table-members.result ≡ table_to 32 (entry_at d.members) = e.table-members.ensures (entry_at d.members) (λ k h x q. search rules) in
+    let long = part_long p.1 b v.0 e.group_length.ensures.0 m in (
+      p.0,
+      part_choices p.1 b v.0 e.group_length.ensures.0 m,
+      room_after _ _ _ v.1 p.2 (groups_few (number_at a.index.now.numbers) a.sizes a.schedule.now d.lengths d.members p.0 g)
+          (omega (arith, long, start_within d.lengths g d.groups b, p.1.few)) (omega (arith, p.1.count)),
+    )
 
 pub loop-g-preserved : goal.loop-g-preserved
-loop-g-preserved c = let v = c.loop-g.invariant in (start_more _ _ v.0, groups_step _ v.1 (groups_eq (group_at _ _ _ _ _ _ v.0) c.put_group-to.ensures))
+loop-g-preserved c =
+    let e = c in
+    let a = e.args in
+    let d = a.day.now in
+    let v = e.loop-g.invariant in
+    let b : e.loop-g.g < d.groups = omega arith in
+    let m : e.table-members.result ≡ table_to 32 (entry_at d.members) = e.table-members.ensures (entry_at d.members) (λ k h x q. search rules) in (
+      rw e.group_length.ensures.0 (start_more _ _ v.0),
+      append_step _ v.1 (append_eq (part_names e.requires.1 b v.0 e.group_length.ensures.0 m (number_at a.index.now.numbers) a.sizes a.schedule.now) e.put_group.ensures),
+    )
 
 pub returns : goal.returns
 unfolding dependent_names
-returns c = groups_all _ (omega arith) c.loop-g.invariant.1
+returns c = append_all _ (omega arith) c.loop-g.invariant.1

@@ -6,4 +6,4 @@ use Rattle.day_checks.proofs.member_count.Goals as goal
 
 pub returns : goal.returns
 unfolding member_count
-returns c = c.loop-i.invariant.1 ∙ fold_at _ _ _ (omega arith) ∙ sum_places 16 c.args.n _
+returns c = c.loop-i.invariant.1 ∙ fold_at _ _ _ (omega arith) ∙ sum_places 16 c.args.day.now.groups _

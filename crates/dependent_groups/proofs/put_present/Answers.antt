@@ -1,27 +1,29 @@
-use Rattle.std.proofs.Common.{arith}
+use Rattle.std.proofs.Common.{ap, length, zero-add, arith}
 use Rattle.counting.specs.Fold.{join_to}
-use Rattle.counting.specs.WrittenLaws.{put_empty, put_length}
-use Rattle.edge_groups.specs.Names.{member_name_at, chooser_names}
-use Rattle.edge_groups.specs.Stored.{storing, present_start, present_more, present_done}
-use Rattle.edge_groups.specs.Bounds.{present_length, members_length}
+use Rattle.model_buffers.specs.Appending.{append_start, append_step, append_all, append_eq}
+use Rattle.model_buffers.specs.StoredLaws.{fill_used, fill_long}
 use Rattle.mip_flow.specs.IndexLaws.{number_at}
+use Rattle.edge_groups.specs.Bounds.{present_length, members_length}
+use Rattle.edge_groups.specs.Names.{member_name_at, chooser_names}
+use Rattle.edge_groups.specs.Stored.{present_each}
 use Rattle.dependent_groups.proofs.put_present.Goals as goal
 
-pub loop-i-init : goal.loop-i-init
-loop-i-init c = put_empty storing _ _ (present_start _ _)
+pub loop-k-init : goal.loop-k-init
+loop-k-init c = append_start _ _ _
 
-pub overflow_add-k : goal.overflow_add-k
-overflow_add-k c = omega (arith, c.requires.2.few)
+pub put_member-requires : goal.put_member-requires
+put_member-requires c =
+    let e = c in
+    let a = e.args in
+    let i = e.loop-k.k-index in
+    let p = e.loop-k.invariant in
+    let f = member_name_at (number_at a.index.now.numbers) a.schedule.now a.group.now 0 a.c in
+    let few = members_length (number_at a.index.now.numbers) a.schedule.now a.group.now 0 a.c i in
+    (e.requires.0, e.requires.1 i e.loop-k-test.true, omega (arith, fill_used a.part p, fill_long a.part p, ap length (present_each a.index.now.count f i), present_length a.index.now.count (join_to i f), few))
 
-pub bounds-members-start : goal.bounds-members-start
-bounds-members-start c = omega (arith, c.requires.2.few, c.loop-i-test)
-
-pub put_member-to-requires : goal.put_member-to-requires
-put_member-to-requires c = let e = c in let a = e.args in let i = c.loop-i.i in let p = c.loop-i.invariant in (e.requires.0, e.requires.1, e.requires.2.each i c.loop-i-test.true, omega (arith, p.count, put_length p, present_length a.n (join_to i (member_name_at (number_at a.index.now) a.schedule.now a.members.now a.start a.c)), members_length (number_at a.index.now) a.schedule.now a.members.now a.start a.c i, c.loop-i-test, e.requires.3))
-
-pub loop-i-preserved : goal.loop-i-preserved
-loop-i-preserved c = present_more _ _ _ c.loop-i.invariant c.put_member-to.ensures
+pub loop-k-preserved : goal.loop-k-preserved
+loop-k-preserved c = append_step _ c.loop-k.invariant (rw zero-add c.put_member.ensures)
 
 pub returns : goal.returns
 unfolding chooser_names
-returns c = present_done _ _ (omega arith) c.loop-i.invariant
+returns c = append_eq (present_each _ _ _) (append_all _ (omega arith) c.loop-k.invariant)

@@ -1,10 +1,10 @@
 use Rattle.counting.specs.Fold.{join_to}
-use Rattle.scheduling.specs.Schedule.{entry_at}
-use Rattle.slot_lists.specs.Lists.{listed}
-use Rattle.edge_groups.specs.Groups.{group_buffers, PutGroups}
-use Rattle.edge_groups.specs.Names.{slot_names_at}
+use Rattle.slot_lists.specs.Parts.{list_length, list_entry}
+use Rattle.model_buffers.specs.Appending.{Appends}
 use Rattle.mip_flow.specs.IndexLaws.{number_at}
+use Rattle.edge_groups.specs.Names.{slot_names_at}
+use Rattle.edge_groups.specs.Stored.{appending_groups}
 use Rattle.create_edge_groups.proofs.pairs.put_same_choices.Given as goal
 
 abbrev pub invariant-loop-s : goal.invariant-loop-s
-invariant-loop-s l = PutGroups l.n (group_buffers l.initial.entries l.initial.ends l.initial.blocked) l.initial.to (join_to l.s (slot_names_at (number_at l.index) (entry_at l.lens) (listed l.sizes.stride l.lists) l.a l.b)) (group_buffers l.entries l.ends l.blocked) l.to
+invariant-loop-s l = Appends (appending_groups l.index.count) l.initial.groups (join_to l.s (slot_names_at (number_at l.index.numbers) (list_length l.lists) (list_entry l.lists) l.a l.b)) l.groups

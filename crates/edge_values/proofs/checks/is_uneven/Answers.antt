@@ -1,10 +1,7 @@
 use Rattle.std.proofs.Common.{◌∙◌, rules}
 use Rattle.counting.specs.Ints.{eq_z}
-use Rattle.edge_values.specs.Checks.{differs_first, uneven_first, uneven_empty}
+use Rattle.edge_values.specs.Checks.{differs_first, uneven_first}
 use Rattle.edge_values.proofs.checks.is_uneven.Goals as goal
-
-pub returns-then-is_empty : goal.returns-then-is_empty
-returns-then-is_empty c = uneven_empty _ _ (search rules)
 
 pub returns : goal.returns
 unfolding eq_z

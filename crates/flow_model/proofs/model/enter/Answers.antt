@@ -1,23 +1,28 @@
-use Rattle.counting.specs.Tests.{so}
-use Rattle.flow_model.specs.Entering.{input_lent, enter_refused, enter_done}
+use Rattle.std.proofs.Common.{◌∙◌}
+use Rattle.flow_model.specs.Entering.{entered_unread, entered_refused, entered_state, buildable, are_lists, entered_done}
 use Rattle.flow_model.proofs.model.enter.Goals as goal
 
-pub number_with-number-requires : goal.number_with-number-requires
-number_with-number-requires c = c.requires.0
+pub returns-in_err-day : goal.returns-in_err-day
+returns-in_err-day c = let a = c.args in entered_unread a.limits a.day.now a.state.now a.input.now a.short a.buffers.now _ _ c.from_residual.ensures.1 c.in_err-day.ensures
 
-pub returns-then-number-ne0 : goal.returns-then-number-ne0
-returns-then-number-ne0 c = enter_refused c.number_with-number.ensures c.if-number-ne0.true
+pub returns-in_err-sums : goal.returns-in_err-sums
+returns-in_err-sums c =
+    let a = c.args in
+    entered_refused a.limits a.day.now a.state.now a.input.now a.short a.buffers.now c.in_ok-day.ensures c.lengths.ensures _ _ c.from_residual-in_err-sums.ensures.1 c.in_err-sums.ensures
 
-pub day_of-requires : goal.day_of-requires
-day_of-requires c = (input_lent _ _ _ _ (so c.number_with-number.ensures c.if-number-ne0.false)).day
+pub of-requires : goal.of-requires
+of-requires c = let a = c.args in entered_state a.limits a.day.now a.state.now a.input.now a.short a.buffers.now c.in_ok-day.ensures c.lengths.ensures c.requires c.in_ok-sums.ensures
 
-pub state_of-requires : goal.state_of-requires
-state_of-requires c = (input_lent _ _ _ _ (so c.number_with-number.ensures c.if-number-ne0.false)).state
-
-pub put_model-counts-requires : goal.put_model-counts-requires
-put_model-counts-requires c =
-    rw (c.day_of.ensures, c.state_of.ensures)
-    (record { within = c.requires.0; short = c.args.short; number = (input_lent _ _ _ _ (so c.number_with-number.ensures c.if-number-ne0.false)).zero }, c.requires.1)
+pub put_model-requires : goal.put_model-requires
+put_model-requires c =
+    let a = c.args in
+    let s = c.decoded-state.ensures ∙ c.of.ensures in (
+      buildable a.limits a.day.now a.state.now a.input.now a.short a.buffers.now c.in_ok-day.ensures c.lengths.ensures c.requires c.in_ok-sums.ensures s,
+      are_lists a.limits a.day.now a.state.now a.input.now a.short a.buffers.now c.in_ok-day.ensures c.lengths.ensures c.requires c.in_ok-sums.ensures s,
+    )
 
 pub returns : goal.returns
-returns c = enter_done (so c.number_with-number.ensures c.if-number-ne0.false) (rw (c.day_of.ensures, c.state_of.ensures) at c.put_model-counts.ensures)
+returns c =
+    let a = c.args in
+    let s = c.decoded-state.ensures ∙ c.of.ensures in
+    entered_done a.limits a.day.now a.state.now a.input.now a.short a.buffers.now c.in_ok-day.ensures c.lengths.ensures c.requires c.in_ok-sums.ensures s c.put_model.ensures

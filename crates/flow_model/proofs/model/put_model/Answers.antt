@@ -1,41 +1,38 @@
-use Rattle.std.proofs.Common.{refl}
-use Rattle.mip_flow.specs.Stored.{tables}
-use Rattle.flow_model.specs.Building.{good_of, lent_of, counts_are, weighs_ones, supplying, offered, listed_in, placed, edge_room, choice_room, seats_few, grouping, made}
+use Rattle.std.proofs.Common.{refl, rules}
+use Rattle.flow_model.specs.Building.{good_of, lent_of, offered, supplying, listed_in, placed, seat_room, choice_room, grouping, made}
 use Rattle.flow_model.proofs.model.put_model.Goals as goal
 
-pub sums-lens-requires : goal.sums-lens-requires
-sums-lens-requires c = rw (c.kept-schedule.ensures, c.ones.ensures) (weighs_ones (good_of c.requires.0))
+pub of-offer-requires : goal.of-offer-requires
+of-offer-requires c = rw c.sizes_of-sizes.ensures (offered (good_of c.requires.0) (lent_of c.requires.0))
 
 pub put_supplies-requires : goal.put_supplies-requires
-put_supplies-requires c = supplying (good_of c.requires.0) _ (lent_of c.requires.0).long.supplies
+put_supplies-requires c = rw c.sizes_of-sizes.ensures (supplying (good_of c.requires.0) _ (lent_of c.requires.0).long.supplies)
 
-pub put_seats-seats-requires : goal.put_seats-seats-requires
-put_seats-seats-requires c =
-    let a = c.args in
+pub put_seats-requires : goal.put_seats-requires
+put_seats-requires c =
     let g = good_of c.requires.0 in
-    let k = lent_of c.requires.0 in
-    let q = counts_are g (rw (c.kept-schedule.ensures, c.ones.ensures) at c.sums-lens.ensures) in
-    (offered g k, listed_in g _ q, edge_room g k (tables a.from.now a.to.now a.max.now a.cost.now) _ q refl refl refl refl)
+    rw (c.of-offer.ensures, c.sizes_of-sizes.ensures, c.none-index.ensures)
+    (listed_in g c.requires.1, seat_room g c.args.buffers.now (lent_of c.requires.0) c.requires.1 (record { from = refl; to = refl; max = refl; cost = refl; used = refl }))
 
-pub put_choices-edges-requires : goal.put_choices-edges-requires
-put_choices-edges-requires c =
+pub put_choices-requires : goal.put_choices-requires
+put_choices-requires c =
     let g = good_of c.requires.0 in
-    let q = counts_are g (rw (c.kept-schedule.ensures, c.ones.ensures) at c.sums-lens.ensures) in
-    (rw c.kept-schedule.ensures (placed g), choice_room g (lent_of c.requires.0) _ _ _ _ q refl refl refl refl c.put_seats-seats.ensures)
+    let p = rw (c.of-offer.ensures, c.sizes_of-sizes.ensures, c.none-index.ensures) at c.put_seats.ensures.stores in
+    rw (c.kept-schedule.ensures, c.sizes_of-sizes.ensures)
+    (placed g, choice_room g c.args.buffers.now (lent_of c.requires.0) c.requires.1 (record { from = refl; to = refl; max = refl; cost = refl; used = refl }) p)
 
-pub put_groups-marks-requires : goal.put_groups-marks-requires
-put_groups-marks-requires c =
-    let g = good_of c.requires.0 in
-    let k = lent_of c.requires.0 in
-    let q = counts_are g (rw (c.kept-schedule.ensures, c.ones.ensures) at c.sums-lens.ensures) in
-    grouping g k _ _ (seats_few g k _ _ _ _ q c.put_seats-seats.ensures) q
+pub put_groups-requires : goal.put_groups-requires
+put_groups-requires c =
+    rw c.sizes_of-sizes.ensures
+    (grouping (good_of c.requires.0) c.args.buffers.now (lent_of c.requires.0) c.requires.1 (record { entries = refl; ends = refl; blocked = refl; entries_used = refl; ends_used = refl; blocked_used = refl }))
 
 pub returns : goal.returns
 returns c =
-    let g = good_of c.requires.0 in
-    let q = counts_are g (rw (c.kept-schedule.ensures, c.ones.ensures) at c.sums-lens.ensures) in
-    made g _ _ q
-    (rw c.kept-schedule.ensures at c.put_supplies.ensures)
-    (rw c.requires.1 at c.put_seats-seats.ensures)
-    (rw c.kept-schedule.ensures at c.put_choices-edges.ensures)
-    (rw c.kept-schedule.ensures at c.put_groups-marks.ensures)
+    let p = rw (c.of-offer.ensures, c.sizes_of-sizes.ensures, c.none-index.ensures) at c.put_seats.ensures.stores in
+    let s = rw (c.kept-schedule.ensures, c.sizes_of-sizes.ensures) at c.put_supplies.ensures in
+    let k = rw (c.kept-schedule.ensures, c.sizes_of-sizes.ensures) at c.put_choices.ensures.stores in
+    let n = rw (c.kept-schedule.ensures, c.sizes_of-sizes.ensures) at c.put_groups.ensures.stores in
+    rw c.sizes_of-sizes.ensures
+    (made (good_of c.requires.0) c.args.buffers.now c.requires.1 (record { from = refl; to = refl; max = refl; cost = refl; used = refl }) p
+    (record { entries = refl; ends = refl; blocked = refl; entries_used = refl; ends_used = refl; blocked_used = refl }) k n
+    (record { supplies = s; from = search rules; to = search rules; max = search rules; cost = search rules; entries = search rules; ends = search rules; blocked = search rules }))

@@ -1,10 +1,10 @@
-use Rattle.input_data.specs.Bytes.{day_of}
+use Rattle.blocks.specs.BlocksLaws.{unfilled}
 use Rattle.schedule_state.specs.Good.{blocking}
-use Rattle.schedule_updates.specs.Numbers.{carried_of}
+use Rattle.schedule_updates.specs.Numbers.{carried_state}
 use Rattle.schedule_updates.proofs.state.carry_state.Goals as goal
 
-pub made-requires : goal.made-requires
-made-requires c = (c.requires.0, blocking c.requires.1.ready)
+pub fill_blocks-requires : goal.fill_blocks-requires
+fill_blocks-requires c = unfilled (blocking c.requires.ready)
 
 pub returns : goal.returns
-returns c = carried_of c.args.limits (day_of c.args.day.now) c.choices-n.ensures c.requires.2.mins_are c.carry.ensures c.made.ensures
+returns c = carried_state c.args.limits c.args.day.now (rw (c.mins.ensures, c.choices.ensures) at c.carry.ensures) c.fill_blocks.ensures

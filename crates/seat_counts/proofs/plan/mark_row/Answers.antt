@@ -1,11 +1,7 @@
-use Rattle.std.proofs.Common.{suc, ◌-◌, ◌≡◌, ◌≤◌, sym, true, ◌&&◌, arith}
-use Rattle.counting.specs.FoldLaws.{fold_none}
-use Rattle.seat_counts.specs.Seats.{seat_entry, once_each}
-use Rattle.seat_counts.specs.Laws.{fold_next, marked_none, marked_more, marked_new}
+use Rattle.std.proofs.Common.{suc, ◌-◌, ◌≡◌, ◌≤◌, true, ◌&&◌, arith}
+use Rattle.seat_counts.specs.Seats.{seat_entry}
+use Rattle.seat_counts.specs.Laws.{fold_next, marked_more, marked_new}
 use Rattle.seat_counts.proofs.plan.mark_row.Goals as goal
-
-pub loop-s-init : goal.loop-s-init
-loop-s-init c = (sym (fold_none ◌&&◌ true _), marked_none _ _ _ _ c.requires.1)
 
 pub loop-s-preserved : goal.loop-s-preserved
 loop-s-preserved c =
@@ -16,7 +12,3 @@ loop-s-preserved c =
     let m : e ≤ 8 = c.requires.0.small s c.loop-s-test.true in
     let q : e ≡ suc (e - 1) = omega (arith, c.requires.0.slot s c.loop-s-test.true) in
     (fold_next ◌&&◌ true _ _ v.0 (marked_new _ _ _ _ s (e - 1) q (omega arith) v.1), marked_more _ _ _ _ s (e - 1) q (omega arith) v.1)
-
-pub returns : goal.returns
-unfolding once_each
-returns c = let e : c.loop-s.s ≡ c.args.slots = omega arith in rw e at c.loop-s.invariant.0

@@ -23,5 +23,5 @@ pub returns : goal.returns
 returns c = let a = c.args in
     let b = back w32 a.extra c.ranges.extra.sfits in
     c.negated_with-2.ensures
-    ∙ rw (back w32 c.keep_signed.result c.keep_signed.type_inv, c.keep_signed.ensures, c.keep.ensures, c.negated_kind.ensures, c.has_extra-there.ensures, b)
+    ∙ rw (back w32 c.keep-2.result c.keep-2.type_inv, c.keep-2.ensures, c.keep.ensures, c.negated_kind.ensures, c.has_extra-there.ensures, b)
     (numbers_else a.kind a.left a.target_case a.target a.extra_case a.extra c.if-kind-eq6.false)

@@ -1,0 +1,112 @@
+// The walk that fills a roster, row after row.
+ghost use Rattle.std.specs.Prelude.{◌≡◌, ◌<◌, ◌≤◌, length};
+ghost use Rattle.counting.specs.WrittenLaws.{Put, one_buffer};
+ghost use Rattle.input_data.specs.Lengths.{Within};
+ghost use Rattle.rosters.specs.Answered.{roster_answered};
+ghost use Rattle.rosters.specs.Rows.{rows_of, row_of, run_of, roster_of, is_outside, chooser_of, Rostered};
+ghost use Rattle.rosters.specs.Laws.{RowIn, RosterIn};
+
+use assignment::check_plan;
+use input_data::{Day, Limits};
+use refusal::Refusal;
+
+// The choosers of a choice, or the choices of a chooser.
+#[derive(Clone, Copy)]
+pub enum Roster {
+    ChoosersOf(usize),
+    ChoicesOf(usize),
+}
+
+// The row of the plan that begins at `base`: `value` is listed once for each slot in which its seat is the choice.
+#[derive(Clone, Copy)]
+pub struct Row {
+    pub base: usize,
+    pub choice: usize,
+    pub value: u8,
+}
+
+impl Roster {
+    // 9. The choice or the chooser is not of the day.
+    fn is_outside(self, day: &Day) -> bool
+        ensures { result ≡ is_outside self day.now }
+    {
+        match self {
+            Roster::ChoosersOf(choice) => day.choices() <= choice,
+            Roster::ChoicesOf(chooser) => day.choosers() <= chooser,
+        }
+    }
+
+    // How many may be listed.
+    fn rows(self, day: &Day) -> usize
+        ensures { result ≡ rows_of self day.now }
+    {
+        match self {
+            Roster::ChoosersOf(_) => day.choosers(),
+            Roster::ChoicesOf(_) => day.choices(),
+        }
+    }
+
+    // The row of the i-th that may be listed.
+    fn row(self, day: &Day, i: usize) -> Row
+        requires { (day.now.slots ≤ 8) × (chooser_of self < 64) × (i < 64) }
+        ensures { result ≡ row_of self day.now i }
+    {
+        let value = i as u8;
+        match self {
+            Roster::ChoosersOf(choice) => Row {
+                base: i * day.slots(),
+                choice,
+                value,
+            },
+            Roster::ChoicesOf(chooser) => Row {
+                base: chooser * day.slots(),
+                choice: i,
+                value,
+            },
+        }
+    }
+}
+
+#[tactic(auto, using(crate::specs::Laws::seat_room, crate::specs::Laws::seat_more, crate::specs::Laws::seat_skip, counting::specs::WrittenLaws::put_start, counting::specs::WrittenLaws::put_all), unfolding(assignment::specs::Plan::row))]
+fn put_row(slots: usize, plan: &[u8], row: Row, roster: &mut [u8], at: usize) -> usize
+    requires { RowIn slots plan.now row at (length roster.old) }
+    ensures { Put (one_buffer _) roster.old at (run_of slots plan.now row) roster.new result }
+{
+    let mut to = at;
+    for s in 0..slots {
+        if plan[row.base + s] as usize == row.choice {
+            roster[to] = row.value;
+            to += 1;
+        }
+    }
+    to
+}
+
+#[tactic(auto, using(crate::specs::Laws::row_in))]
+fn put_rows(day: &Day, plan: &[u8], of: Roster, roster: &mut [u8]) -> usize
+    requires { RosterIn of day.now plan.now (length roster.old) }
+    ensures { Put (one_buffer _) roster.old 0 (roster_of of day.now plan.now) roster.new result }
+{
+    let mut at = 0;
+    for i in 0..of.rows(day) {
+        at = put_row(day.slots(), plan, of.row(day, i), roster, at);
+    }
+    at
+}
+
+#[tactic(auto, using(crate::specs::Laws::roster_in))]
+pub fn roster_within(
+    limits: Limits,
+    day: &[u8],
+    plan: &[u8],
+    of: Roster,
+    roster: &mut [u8],
+) -> Result<usize, Refusal>
+    requires { Within limits }
+    ensures { Rostered limits day.now plan.now of roster.old roster.new (roster_answered result) }
+{
+    let day = Day::read(day)?;
+    let short = roster.len() < limits.choosers * limits.slots;
+    check_plan(limits, &day, plan, short, of.is_outside(&day))?;
+    Ok(put_rows(&day, plan, of, roster))
+}
