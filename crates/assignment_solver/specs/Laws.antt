@@ -18,7 +18,8 @@ use Rattle.preference_search.specs.Search.{LimitSolveResult, Feasible, Infeasibl
 use Rattle.preference_search.specs.Bytes.{not_cached, not_search, cached_in, search_in}
 use Rattle.preference_search.specs.Steps.{search_refused, begun_answer, over, asked_again, told_greedy, told_range, told_answer}
 use Rattle.preference_search.specs.Laws.{is_infeasible, told_again}
-use Rattle.preference_search_checks.specs.Checks.{held_number, tell_number, begin_read_number, tell_read_number}
+use Rattle.preference_search_checks.specs.Checks.{held_number, tell_number}
+use Rattle.preference_search_checks.specs.Read.{begin_read_number, tell_read_number}
 use Rattle.assignment_solver.specs.Calls.{begin_lent, tell_lent}
 use Rattle.preference_search.specs.declared.CachedAssignment.{CachedAssignment}
 use Rattle.preference_search.specs.declared.Known.{Known}

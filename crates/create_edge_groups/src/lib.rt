@@ -20,6 +20,7 @@ use pairs::put_constraints;
 use slot_lists::SlotLists;
 
 // All dependent groups, one after the other.
+#[tactic(auto, using(edge_groups::specs::Bounds::start_none, edge_groups::specs::Stored::groups_laws), unfolding(edge_groups::specs::Names::dependent_names))]
 fn put_dependent(
     sizes: Sizes,
     schedule: &[u8; 32],
@@ -41,6 +42,7 @@ fn put_dependent(
 
 // Stores the groups and the blocked edges of a state: those that constraints name, then those of
 // dependent groups.
+#[tactic(auto, using(edge_groups::specs::Stored::groups_append), unfolding(edge_groups::specs::Names::names))]
 pub fn put_groups(
     sizes: Sizes,
     schedule: &[u8; 32],

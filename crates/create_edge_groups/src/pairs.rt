@@ -15,6 +15,7 @@ use model_buffers::Groups;
 use slot_lists::SlotLists;
 
 // The edges of choosers a and b to the choices of slot s.
+#[tactic(auto, using(edge_groups::specs::Stored::groups_laws))]
 fn put_slot(
     sizes: Sizes,
     index: &EdgeIndex,
@@ -35,6 +36,7 @@ fn put_slot(
 }
 
 // The edges of choosers a and b, slot by slot.
+#[tactic(auto, using(edge_groups::specs::Stored::groups_laws), unfolding(edge_groups::specs::Names::same_choices_names))]
 fn put_same_choices(
     sizes: Sizes,
     index: &EdgeIndex,
@@ -52,6 +54,7 @@ fn put_same_choices(
 }
 
 // What a constraint names. Only one kind names edges.
+#[tactic(auto, using(edge_groups::specs::Grouping::names_none, edge_groups::specs::Grouping::names_same, edge_groups::specs::Stored::groups_none))]
 fn put_constraint(
     sizes: Sizes,
     index: &EdgeIndex,
@@ -71,6 +74,7 @@ fn put_constraint(
 }
 
 // What a list of constraints names, constraint by constraint.
+#[tactic(auto, using(edge_groups::specs::Stored::groups_laws), unfolding(edge_groups::specs::Names::constraints_names))]
 pub fn put_constraints(
     sizes: Sizes,
     index: &EdgeIndex,

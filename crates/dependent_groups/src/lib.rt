@@ -56,6 +56,7 @@ fn put_member(
 }
 
 // Stores those edges of chooser c to the scheduled members of a group that are there.
+#[tactic(auto, using(edge_groups::specs::Stored::present_laws), unfolding(edge_groups::specs::Names::chooser_names))]
 fn put_present(
     index: &EdgeIndex,
     schedule: &[u8; 32],
@@ -73,6 +74,7 @@ fn put_present(
 }
 
 // The edges of chooser c form a group if all are there; otherwise those that are there are blocked.
+#[tactic(auto, using(edge_groups::specs::Stored::stored_group, edge_groups::specs::Stored::stored_blocked))]
 fn put_chooser(index: &EdgeIndex, schedule: &[u8; 32], group: &[u32], c: usize, groups: &mut Groups)
     requires { (c < 64) × Choices group.now × Room groups.old (length group.now) 1 }
     ensures { Stores index.now.count (chooser_names_of (number_at index.now.numbers) schedule.now group.now c ∷ []) groups }
@@ -86,6 +88,7 @@ fn put_chooser(index: &EdgeIndex, schedule: &[u8; 32], group: &[u32], c: usize, 
 }
 
 // The edges of all choosers, one after the other.
+#[tactic(auto, using(edge_groups::specs::Stored::groups_laws))]
 fn put_choosers(
     index: &EdgeIndex,
     schedule: &[u8; 32],
@@ -102,6 +105,7 @@ fn put_choosers(
 }
 
 // A dependent group, unless its length is 1.
+#[tactic(auto, using(edge_groups::specs::Grouping::group_one, edge_groups::specs::Grouping::group_other, edge_groups::specs::Stored::groups_none))]
 pub fn put_group(
     sizes: Sizes,
     index: &EdgeIndex,

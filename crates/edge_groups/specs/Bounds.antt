@@ -15,11 +15,10 @@ use Rattle.input_data.specs.declared.ConstraintList.{ConstraintList}
 use Rattle.input_data.specs.Day.{constraint_at}
 use Rattle.scheduling.specs.Schedule.{entry_at}
 use Rattle.input_data.specs.declared.Sizes.{Sizes}
-use Rattle.model_buffers.specs.Appending.{Appends}
 use Rattle.model_buffers.specs.declared.groups.Groups.{Groups}
 use Rattle.edge_groups.specs.Groups.{each, all_there, present, groups_of, blocked_of, flat, store_groups, Room}
 use Rattle.edge_groups.specs.Names.{pair_names, slot_names, slot_names_at, same_choices_names, constraint_names, constraint_names_at, constraints_names, member_name_at, chooser_names, chooser_names_at, group_names, group_names_at, member_start, dependent_names, names}
-use Rattle.edge_groups.specs.Stored.{each_append, ends_length, appending_groups}
+use Rattle.edge_groups.specs.Stored.{each_append}
 
 -- ---- no more is stored than is named
 
@@ -58,11 +57,11 @@ pub stored_most : (n : ℕ) {ls : List (List ℕ)} {w g : ℕ} → Few ls w g �
 stored_most n {ls = ls} f = let le = less_stored n ls in (omega (arith, f.named), omega (arith, f.lists), omega (arith, f.named))
 
 -- where there was room for w and k, room for w' and k' is left after some of them
-pub room_after : (n : ℕ) {g g' : Groups} {ls : List (List ℕ)} {w k u v : ℕ} (w' k' : ℕ) → Appends (appending_groups n) g ls g' → Room g w k → Few ls u v → u + w' ≤ w → v + k' ≤ k → Room g' w' k'
+pub room_after : (n : ℕ) (g : Groups) (ls : List (List ℕ)) {g' : Groups} {w k u v : ℕ} (w' k' : ℕ) → g' ≡ store_groups n g ls → Room g w k → Few ls u v → u + w' ≤ w → v + k' ≤ k → Room g' w' k'
 unfolding store_groups
-room_after n {ls = ls} w' k' p r f h i =
+room_after n g ls w' k' p r f h i =
     let le = less_stored n ls in
-    rw p.holds (record {
+    rw p (record {
       small = omega (arith, le.in_groups, f.named, r.small);
       entries = simp length_written (omega (arith, le.in_groups, f.named, r.entries));
       ends = simp length_written (omega (arith, le.groups, f.lists, r.ends));

@@ -1,17 +1,16 @@
 -- Laws of stored lists of named edges: one after the other, and one list edge by edge. Assumes nothing.
 use Rattle.std.specs.Prelude.{ℕ, zero, suc, ◌+◌, ◌≡◌, Bool, true, false, ◌&&◌, ltb}
-use Rattle.std.proofs.Common.{add-zero, add_assoc, arith, ◌∙◌, length-append}
+use Rattle.std.proofs.Common.{zero-add, add-zero, add_assoc, arith, ◌∙◌, length-append}
 use Rattle.std.proofs.Math.Path.{refl, sym, ap}
 use mathlib.Core.List.{List, [], ◌∷◌, ◌++◌, append_assoc, append-nil}
 use Rattle.std.proofs.Math.ListN.{length}
 use Rattle.counting.specs.Fold.{only_if, all_to, join_to}
-use Rattle.counting.specs.FoldLaws.{fold_none, fold_suc}
+use Rattle.counting.specs.FoldLaws.{fold_none, fold_suc, fold_more}
 use Rattle.counting.specs.Tests.{never}
 use Rattle.counting.specs.Written.{written}
 use Rattle.counting.specs.WrittenLaws.{written_append}
-use Rattle.model_buffers.specs.Appending.{Appending, Appends}
-use Rattle.model_buffers.specs.Stored.{group_closed, groups_with}
-use Rattle.model_buffers.specs.StoredLaws.{filling}
+use Rattle.model_buffers.specs.Stored.{filled, group_closed, groups_with}
+use Rattle.model_buffers.specs.StoredLaws.{fill_laws}
 use Rattle.model_buffers.specs.declared.groups.Part.TheVariants.{Entries, Blocked}
 use Rattle.model_buffers.specs.declared.groups.Groups.{Groups}
 use Rattle.edge_groups.specs.Groups.{each, all_there, if_there, present, flat, ends_from, store_groups}
@@ -19,6 +18,10 @@ use Rattle.edge_groups.specs.Groups.{each, all_there, if_there, present, flat, e
 -- ---- what is made of each element
 
 module _ {A B : Type 0} (f : A → List B) where
+  pub each_none : each f [] ≡ []
+  unfolding each
+  each_none = refl
+
   pub each_append : (xs ys : List A) → each f (xs ++ ys) ≡ each f xs ++ each f ys
   unfolding each
   each_append [] ys = refl
@@ -44,18 +47,24 @@ pub groups_append : (n : ℕ) (g : Groups) (ls ms : List (List ℕ)) → store_g
 unfolding store_groups
 groups_append n g ls ms = simp (each_append, ends_append, ends_length, written_append, length-append, add_assoc)
 
-abbrev pub appending_groups : ℕ → Appending Groups (List ℕ)
-appending_groups n = record { append = store_groups n; append_none = groups_none n; append_append = groups_append n }
+-- how one run of stores follows another
+pub ruleset groups_laws = (fold_none, fold_more, groups_none, groups_append)
+
+-- how those that are there are stored, run by run
+pub ruleset present_laws = (zero-add, each_none, each_append, fill_laws)
 
 -- they are stored in the same buffers
-pub groups_same : (n : ℕ) {g g' : Groups} {ls : List (List ℕ)} → Appends (appending_groups n) g ls g' → g' ≡ groups_with g g'
+pub groups_same : (n : ℕ) (g : Groups) (ls : List (List ℕ)) {g' : Groups} → g' ≡ store_groups n g ls → g' ≡ groups_with g g'
 unfolding store_groups
-groups_same n p = rw p.holds refl
+groups_same n g ls p = rw p refl
+
+pub groups_same_then : (n : ℕ) (g g' : Groups) (ls ms : List (List ℕ)) {g'' : Groups} → g' ≡ store_groups n g ls → g'' ≡ store_groups n g' ms → g'' ≡ groups_with g g''
+groups_same_then n g g' ls ms p q = groups_same n g (ls ++ ms) (q ∙ rw p (sym (groups_append n g ls ms)))
 
 -- ---- one list, edge by edge
 
 -- two edges
-pub two_present : (n x y : ℕ) → if_there n x ++ if_there n y ≡ present n (x ∷ y ∷ [])
+pub two_present : (n x y : ℕ) → present n (x ∷ y ∷ []) ≡ if_there n x ++ if_there n y
 unfolding each
 two_present n x y = rw append-nil
 
@@ -78,25 +87,19 @@ unfolding all_there each
 present_all n [] e = refl
 present_all n (a ∷ l) e = present_step (ltb a n) a l (present n l) (all_there n l) (present_all n l) e
 
--- a loop looks at the edges of f 0, f 1, ..
+-- the edges of f 0, f 1, .. are there if those of each are
 module _ (n : ℕ) (f : ℕ → List ℕ) where
-  -- all are there if those of each are
   pub there_each : (m : ℕ) → all_to m (λ i. all_there n (f i)) ≡ all_there n (join_to m f)
   unfolding all_there
   there_each zero = fold_none ◌&&◌ true (λ i. all_there n (f i)) ∙ rw (fold_none ◌++◌ [] f)
   there_each (suc m) = rw (fold_suc ◌&&◌ true m (λ i. all_there n (f i)), there_each m, fold_suc ◌++◌ [] m f, there_append)
 
-  pub present_each : (m : ℕ) → join_to m (λ i. present n (f i)) ≡ present n (join_to m f)
-  unfolding each
-  present_each zero = fold_none ◌++◌ [] (λ i. present n (f i)) ∙ rw (fold_none ◌++◌ [] f)
-  present_each (suc m) = rw (fold_suc ◌++◌ [] m (λ i. present n (f i)), present_each m, fold_suc ◌++◌ [] m f, each_append)
-
 -- those of a list that are there were stored, as a group or as blocked
-module _ (n : ℕ) {g g' : Groups} {l : List ℕ} where
-  pub stored_group : all_there n l ≡ true → Appends (filling Entries) g (present n l) g' → Appends (appending_groups n) g (l ∷ []) (group_closed g')
+module _ (n : ℕ) (g : Groups) (l : List ℕ) {g' : Groups} where
+  pub stored_group : all_there n l ≡ true → g' ≡ filled Entries g (present n l) → group_closed g' ≡ store_groups n g (l ∷ [])
   unfolding store_groups each ends_from written
-  stored_group t a = record { holds = rw (a.holds, present_all n l t, t) (simp (append-nil, add-zero)) }
+  stored_group t a = rw (a, present_all n l t, t) (simp (append-nil, add-zero))
 
-  pub stored_blocked : all_there n l ≡ false → Appends (filling Blocked) g (present n l) g' → Appends (appending_groups n) g (l ∷ []) g'
+  pub stored_blocked : all_there n l ≡ false → g' ≡ filled Blocked g (present n l) → g' ≡ store_groups n g (l ∷ [])
   unfolding store_groups each ends_from written
-  stored_blocked t a = record { holds = rw (a.holds, t) (simp (append-nil, add-zero)) }
+  stored_blocked t a = rw (a, t) (simp (append-nil, add-zero))

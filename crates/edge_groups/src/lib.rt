@@ -12,7 +12,7 @@ use mip_flow::EdgeIndex;
 use model_buffers::{Groups, Part};
 
 // Stores the edge of chooser c to choice k if it is there.
-#[tactic(auto, using(mip_flow::specs::IndexLaws::not_there, model_buffers::specs::StoredLaws::fill_nothing))]
+#[tactic(auto, using(mip_flow::specs::IndexLaws::not_there, model_buffers::specs::StoredLaws::filled_none))]
 pub fn put_edge(index: &EdgeIndex, c: usize, k: usize, groups: &mut Groups, part: Part)
     requires { (c < 64) × (k < 32) × (part_used part groups.old < part_size part groups.old) }
     ensures { StoresEdges part (if_there index.now.count (number_at index.now.numbers c k)) groups }
@@ -32,6 +32,7 @@ fn are_there(index: &EdgeIndex, a: usize, b: usize, k: usize) -> bool
 }
 
 // Stores those of the two that are there.
+#[tactic(auto, using(model_buffers::specs::StoredLaws::filled_append, crate::specs::Stored::two_present))]
 fn put_two(index: &EdgeIndex, a: usize, b: usize, k: usize, groups: &mut Groups, part: Part)
     requires { (a < 64) × (b < 64) × (k < 32) × (part_used part groups.old + 2 ≤ part_size part groups.old) }
     ensures { StoresEdges part (present index.now.count (number_at index.now.numbers a k ∷ number_at index.now.numbers b k ∷ [])) groups }
@@ -41,6 +42,7 @@ fn put_two(index: &EdgeIndex, a: usize, b: usize, k: usize, groups: &mut Groups,
 }
 
 // The two form a group if both are there; otherwise the one that is there is blocked.
+#[tactic(auto, using(crate::specs::Stored::stored_group, crate::specs::Stored::stored_blocked))]
 pub fn put_pair(index: &EdgeIndex, a: usize, b: usize, k: usize, groups: &mut Groups)
     requires { (a < 64) × (b < 64) × (k < 32) × Room groups.old 2 1 }
     ensures { Stores index.now.count ((number_at index.now.numbers a k ∷ number_at index.now.numbers b k ∷ []) ∷ []) groups }

@@ -1,5 +1,5 @@
 -- What the tests of a schedule and of a plan ask, and their laws. Assumes nothing.
-use Rattle.std.specs.Prelude.{ℕ, ◌+◌, ◌<◌, ◌≤◌, ◌≡◌, Bool, true, not, ◌&&◌, ◌||◌, List, eqb, leb}
+use Rattle.std.specs.Prelude.{ℕ, ◌+◌, ◌<◌, ◌≤◌, ◌≡◌, refl, Bool, true, not, ◌&&◌, ◌||◌, List, eqb, leb, replicate}
 use Rattle.std.proofs.Common.{ap, ap₂, arith}
 use Rattle.assignment.specs.Calls.{seats}
 use Rattle.assignment.specs.Laws.{Small}
@@ -43,8 +43,10 @@ pub record SizeSums (d : InputData) (sch : List ℕ) (n : ℕ) (a c : List ℕ) 
   pub mins : Sums (entry_at d.mins) (entry_at sch) n a
   pub maxs : Sums (entry_at d.maxs) (entry_at sch) n c
 
-pub sizes_none : {a c : List ℕ} (d : InputData) (sch : List ℕ) → Unweighed a c → SizeSums d sch 0 a c
-sizes_none d sch p = record { mins = (unweighed_none d.mins sch (record { lens = p.lens; covered = p.lens })).covered; maxs = (unweighed_none d.maxs sch p).covered }
+pub sizes_none : (d : InputData) (sch : List ℕ) → SizeSums d sch 0 (replicate 8 0) (replicate 8 0)
+sizes_none d sch =
+    let zeros : Unweighed (replicate 8 0) (replicate 8 0) = record { lens = refl; covered = refl } in
+    record { mins = (unweighed_none d.mins sch zeros).covered; maxs = (unweighed_none d.maxs sch zeros).covered }
 
 -- one choice more, and that its weights fit
 module _ {sch w : List ℕ} {n i : ℕ} {a : List ℕ} (h : Weighs sch w n) (l : i < n) (p : Sums (entry_at w) (entry_at sch) i a) where

@@ -14,6 +14,7 @@ struct SlotSizes {
 
 impl SlotSizes {
     // Both in one walk over the choices.
+    #[tactic(auto, using(crate::specs::Laws::adds_size, crate::specs::Laws::size_next))]
     fn of(day: &Day, entries: &[u8; 32]) -> SlotSizes
         requires { Weighable day.now entries.now day.now.choices }
         ensures { SizeSums day.now entries.now day.now.choices result.mins result.maxs }

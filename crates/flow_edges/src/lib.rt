@@ -19,6 +19,7 @@ use model_buffers::Edges;
 use slot_lists::SlotLists;
 
 // Stores the edges of chooser c in slot s, by position of its list.
+#[tactic(auto, using(mip_flow::specs::Stored::seats_laws))]
 fn put_slot_seats(
     offer: &Offer,
     lists: &SlotLists,
@@ -38,6 +39,7 @@ fn put_slot_seats(
 }
 
 // Stores the edges of chooser c, slot by slot.
+#[tactic(auto, using(mip_flow::specs::Stored::seats_laws), unfolding(mip_flow::specs::Edges::chooser_seats))]
 fn put_chooser_seats(
     offer: &Offer,
     lists: &SlotLists,
@@ -55,6 +57,7 @@ fn put_chooser_seats(
 }
 
 // Stores the edges of all open seats, chooser by chooser.
+#[tactic(auto, using(mip_flow::specs::Stored::seats_laws), unfolding(mip_flow::specs::Edges::open_seats))]
 pub fn put_seats(offer: &Offer, lists: &SlotLists, edges: &mut Edges, index: &mut EdgeIndex)
     requires { Listed offer.now.sizes.slots offer.now.sizes.choices lists.now
         × SeatRoom edges.old index.old (offer.now.sizes.choosers * sum_to offer.now.sizes.slots (list_length lists.now)) }
@@ -67,6 +70,7 @@ pub fn put_seats(offer: &Offer, lists: &SlotLists, edges: &mut Edges, index: &mu
 }
 
 // Stores the edges of the scheduled choices, upward.
+#[tactic(auto, using(mip_flow::specs::Stored::choices_laws), unfolding(mip_flow::specs::Edges::scheduled))]
 pub fn put_choices(sizes: Sizes, schedule: &[u8; 32], day: &Day, edges: &mut Edges)
     requires { Placed (choices_of sizes schedule.now day.now.mins day.now.maxs) × Room edges.old sizes.choices }
     ensures stores { StoresChoices (choices_of sizes schedule.now day.now.mins day.now.maxs) (scheduled sizes.choices schedule.now) edges }

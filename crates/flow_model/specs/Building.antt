@@ -27,27 +27,24 @@ use Rattle.slot_lists.specs.Sums.{one, weight_at, weighed}
 use Rattle.blocks.specs.Blocks.{cell}
 use Rattle.blocks.specs.BlocksLaws.{cell_in}
 use Rattle.schedule_state.specs.Good.{choosers_most, choices_most, slots_most, part_in, min_most}
-use Rattle.mip_flow_static_data.specs.Nodes.{choice_node, supplies, Supplying}
+use Rattle.mip_flow_static_data.specs.Nodes.{supplies, Supplying}
 use Rattle.input_data.specs.declared.Sizes.{Sizes}
-use Rattle.mip_flow.specs.Edges.{Seat, Offered, open_seats, scheduled, seat_from, seat_to, seat_max, seat_cost, choice_to, choice_max, choice_cost}
+use Rattle.mip_flow.specs.Edges.{Seat, Offered, open_seats, scheduled}
 use Rattle.mip_flow.specs.Index.{EdgeNumbers, unnumbered, no_edge, seat_cell, edge_of}
 use Rattle.mip_flow.specs.IndexLaws.{number_at, indexed, indexed_is}
 use Rattle.model_buffers.specs.Lengths.{short_buffers, short_edges, short_groups}
-use Rattle.mip_flow.specs.Stored.{Indexed, with_index, appending_seats, appending_choices, store_seats, store_choices, Room, SeatRoom, room_after, Placed, choosers_most as seats_most, choices_of as choicesIn}
+use Rattle.mip_flow.specs.Stored.{Indexed, with_index, store_seats, store_choices, Room, SeatRoom, room_after, Placed, choosers_most as seats_most, choices_of as choicesIn}
 use Rattle.model_buffers.specs.Buffers.{Buffers, lengths_of}
 use Rattle.model_buffers.specs.Lent.{held, lent_with}
-use Rattle.model_buffers.specs.Appending.{Appends}
 use Rattle.model_buffers.specs.declared.buffers.LentBuffers.{LentBuffers}
 use Rattle.model_buffers.specs.declared.edges.Edges.{Edges}
 use Rattle.model_buffers.specs.declared.groups.Groups.{Groups}
 use Rattle.model_buffers.specs.declared.Lengths.{Lengths}
 use Rattle.edge_groups.specs.Grouping.{Grouping}
 use Rattle.edge_groups.specs.Names.{names, member_start}
-use Rattle.edge_groups.specs.Groups.{flat, ends_from, store_groups}
-use Rattle.edge_groups.specs.Stored.{ends_length, appending_groups}
+use Rattle.edge_groups.specs.Groups.{flat, store_groups}
 use Rattle.edge_values.specs.Values.{Network}
 use Rattle.plans.specs.Good.{Good, model_accepted, good}
-use Rattle.plans.specs.SeatPairs.{maps_length}
 use Rattle.plans.specs.Seated.{left_chooser, right_chooser}
 use Rattle.plans.specs.Model.{ModelInput, sizes_of, entries_of, count_of, list_of, offer_of, seats_of, choices_of, names_of, network_of, costs_of, wrong_model_tables, number_with}
 use Rattle.flow_model.specs.Alike.{Reading, names_same}
@@ -300,8 +297,8 @@ module _ {l : Limits} {x : ModelInput} (g : Good l x) where
       seat_room = room _ (omega (arith, few_edges))
 
       -- .. and those of the choices after them
-      pub choice_room : {e : Edges} {i : EdgeNumbers} → Appends (appending_seats (offer_of l x)) (with_index e₀ unnumbered) (seats_by s) (with_index e i) → Room e x.day.choices
-      choice_room p = (room_after (offer_of l x) x.day.choices p (room _ few_seats) (le_refl _)).edges
+      pub choice_room : {e : Edges} {i : EdgeNumbers} → with_index e i ≡ store_seats (offer_of l x) (with_index e₀ unnumbered) (seats_by s) → Room e x.day.choices
+      choice_room p = (room_after (offer_of l x) _ x.day.choices p (room _ few_seats) (le_refl _)).edges
 
     -- groups and blocked edges too
     pub grouping : {g₀ : Groups} → NoGroups b g₀ → Grouping (sizes_of l x.day) s x.day g₀
@@ -343,10 +340,10 @@ module _ {l : Limits} {x : ModelInput} (g : Good l x) (b : LentBuffers) {s : Slo
   seats_are = rw (q.lens, q.bytes, q.stride) refl
 
   -- the seats' edges were stored: the buffers and the numbers
-  module _ {e₀ e : Edges} {i : EdgeNumbers} (k : NoEdges b e₀) (p : Appends (appending_seats (offer_of l x)) (with_index e₀ unnumbered) (seats_by g s) (with_index e i)) where
+  module _ {e₀ e : Edges} {i : EdgeNumbers} (k : NoEdges b e₀) (p : with_index e i ≡ store_seats (offer_of l x) (with_index e₀ unnumbered) (seats_by g s)) where
     numbered : i ≡ record { numbers = indexed (replicate 2048 no_edge) 0 (map seat_cell (seats_of l x)); count = 0 + length (seats_of l x) }
     unfolding store_seats
-    numbered = rw (ap (λ (y : Indexed). y.index) p.holds, seats_are) refl
+    numbered = rw (ap (λ (y : Indexed). y.index) p, seats_are) refl
 
     count_is : i.count ≡ length (seats_of l x)
     count_is = ap (λ (y : EdgeNumbers). y.count) numbered ∙ zero-add _
@@ -356,10 +353,10 @@ module _ {l : Limits} {x : ModelInput} (g : Good l x) (b : LentBuffers) {s : Slo
     numbers_are c j hc hj = rw numbered (indexed_is 2048 (map seat_cell (seats_of l x)) (cell c j) (cell_in c j hc hj))
 
     -- then those of the choices
-    edges_are : {e' : Edges} → Appends (appending_choices (choicesIn z (entries_of x) x.day.mins x.day.maxs)) e (scheduled x.day.choices (entries_of x)) e'
+    edges_are : {e' : Edges} → e' ≡ store_choices (choicesIn z (entries_of x) x.day.mins x.day.maxs) e (scheduled x.day.choices (entries_of x))
         → EdgesHold (with_model l x (held b)) (length (network_of l x).from) e'
     unfolding with_model network_of costs_of choices_of store_seats store_choices
-    edges_are r = rw (r.holds, ap (λ (y : Indexed). y.edges) p.holds, seats_are, k.from, k.to, k.max, k.cost, k.used) (record {
+    edges_are r = rw (r, ap (λ (y : Indexed). y.edges) p, seats_are, k.from, k.to, k.max, k.cost, k.used) (record {
       from = simp (written_append, length-map);
       to = simp (written_append, length-map);
       max = simp (written_append, length-map);
@@ -374,15 +371,15 @@ module _ {l : Limits} {x : ModelInput} (g : Good l x) (b : LentBuffers) {s : Slo
         (names_same (number_at i.numbers) (edge_of (seats_of l x)) numbers_are z (entries_of x) (count_of x) (list_of l x) x.day.assignment x.day.groups x.day.lengths x.day.members (reading g))
 
     -- and then the groups
-    groups_are : {g₀ gs : Groups} → NoGroups b g₀ → Appends (appending_groups i.count) g₀ (names (number_at i.numbers) z (entries_of x) (list_length s) (list_entry s) x.day.assignment x.day.groups x.day.lengths x.day.members) gs
+    groups_are : {g₀ gs : Groups} → NoGroups b g₀ → gs ≡ store_groups i.count g₀ (names (number_at i.numbers) z (entries_of x) (list_length s) (list_entry s) x.day.assignment x.day.groups x.day.lengths x.day.members)
         → GroupsHold (with_model l x (held b)) (network_of l x) gs
     unfolding with_model network_of store_groups
-    groups_are j r = rw (r.holds, names_are, count_is, j.entries, j.ends, j.blocked, j.entries_used, j.ends_used, j.blocked_used) (record { entries = refl; ends = refl; blocked = refl; entries_used = zero-add _; ends_used = zero-add _; blocked_used = zero-add _ })
+    groups_are j r = rw (r, names_are, count_is, j.entries, j.ends, j.blocked, j.entries_used, j.ends_used, j.blocked_used) (record { entries = refl; ends = refl; blocked = refl; entries_used = zero-add _; ends_used = zero-add _; blocked_used = zero-add _ })
 
     -- the stages, one after the other, make the model
     pub made : {e' : Edges} {g₀ gs : Groups} {c : Buffers} → NoGroups b g₀
-        → Appends (appending_choices (choicesIn z (entries_of x) x.day.mins x.day.maxs)) e (scheduled x.day.choices (entries_of x)) e'
-        → Appends (appending_groups i.count) g₀ (names (number_at i.numbers) z (entries_of x) (list_length s) (list_entry s) x.day.assignment x.day.groups x.day.lengths x.day.members) gs
+        → e' ≡ store_choices (choicesIn z (entries_of x) x.day.mins x.day.maxs) e (scheduled x.day.choices (entries_of x))
+        → gs ≡ store_groups i.count g₀ (names (number_at i.numbers) z (entries_of x) (list_length s) (list_entry s) x.day.assignment x.day.groups x.day.lengths x.day.members)
         → Holding c (written b.supplies.now 0 (supplies z (entries_of x) x.day.mins x.state.covered)) e' gs
         → ModelMade l x b (lent_with b c) (record { sizes = z; lists = s; index = i; counts = record { edges = e'.used; entries = gs.entries_used; groups = gs.ends_used; blocked = gs.blocked_used } })
     unfolding with_model network_of

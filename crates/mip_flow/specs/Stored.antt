@@ -3,14 +3,13 @@ use Rattle.std.specs.Prelude.{ℕ, ◌+◌, ◌*◌, ◌≤◌, ◌<◌, ◌≡�
 use Rattle.std.proofs.Common.{add-zero, add_assoc, mul-one, arith, length-append, eq-eqb, ne_eqb}
 use Rattle.std.proofs.lemmas.List.{map-append, length-map}
 use Rattle.counting.specs.Fold.{join_to, sum_to}
-use Rattle.counting.specs.FoldLaws.{fold_more}
+use Rattle.counting.specs.FoldLaws.{fold_none, fold_more}
 use Rattle.counting.specs.Lists.{length_join_most, length_join_sum, only_length}
 use Rattle.counting.specs.Sums.{sum_mono}
 use Rattle.counting.specs.Written.{written}
 use Rattle.counting.specs.WrittenLaws.{written_append, length_written}
 use Rattle.scheduling.specs.Schedule.{entry_at}
 use Rattle.input_data.specs.declared.Sizes.{Sizes}
-use Rattle.model_buffers.specs.Appending.{Appending, Appends, append_nothing}
 use Rattle.model_buffers.specs.Stored.{wrote, edge_pushed, edges_with}
 use Rattle.model_buffers.specs.declared.edges.Edges.{Edges}
 use Rattle.mip_flow_static_data.specs.Nodes.{chooser_node, choice_node}
@@ -75,42 +74,41 @@ pub choices_append : (y : Choices) (e : Edges) (ps qs : List ℕ) → store_choi
 unfolding store_choices
 choices_append y e ps qs = simp (map-append, written_append, length-map, length-append, add_assoc)
 
-abbrev pub appending_seats : Offer → Appending Indexed Seat
-appending_seats o = record { append = store_seats o; append_none = seats_none o; append_append = seats_append o }
+-- how one run of stores follows another
+pub ruleset seats_laws = (fold_none, fold_more, seats_none, seats_append)
 
-abbrev pub appending_choices : Choices → Appending Edges ℕ
-appending_choices y = record { append = store_choices y; append_none = choices_none y; append_append = choices_append y }
+pub ruleset choices_laws = (fold_none, fold_more, choices_none, choices_append)
 
 -- they are stored in the same buffers
-pub seats_same : (o : Offer) {b b' : Indexed} {qs : List Seat} → Appends (appending_seats o) b qs b' → b'.edges ≡ edges_with b.edges b'.edges
+pub seats_same : (o : Offer) (b : Indexed) (qs : List Seat) {b' : Indexed} → b' ≡ store_seats o b qs → b'.edges ≡ edges_with b.edges b'.edges
 unfolding store_seats
-seats_same o p = rw p.holds refl
+seats_same o b qs p = rw p refl
 
-pub choices_same : (y : Choices) {e e' : Edges} {ks : List ℕ} → Appends (appending_choices y) e ks e' → e' ≡ edges_with e e'
+pub choices_same : (y : Choices) (e : Edges) (ks : List ℕ) {e' : Edges} → e' ≡ store_choices y e ks → e' ≡ edges_with e e'
 unfolding store_choices
-choices_same y p = rw p.holds refl
+choices_same y e ks p = rw p refl
 
 -- ---- one edge, as it is stored
 
 -- a seat that is not open stores nothing, an open one its edge and the next number
 module _ (o : Offer) (c s k : ℕ) (b : Indexed) where
-  pub no_seat : is_open o c k ≡ false → Appends (appending_seats o) b (seat_at o c s k) b
-  no_seat h = append_nothing (appending_seats o) b (rw h)
+  pub no_seat : is_open o c k ≡ false → b ≡ store_seats o b (seat_at o c s k)
+  no_seat h = rw (h, seats_none)
 
   pub one_seat : {f t : ℕ} {v : ℤ} → is_open o c k ≡ true → f ≡ chooser_node o.sizes c s → t ≡ choice_node o.sizes k → v ≡ seat_cost o (seat c s k)
-      → Appends (appending_seats o) b (seat_at o c s k) (with_index (edge_pushed b.edges f t 1 v) (numbered_next b.index c k))
+      → with_index (edge_pushed b.edges f t 1 v) (numbered_next b.index c k) ≡ store_seats o b (seat_at o c s k)
   unfolding store_seats written indexed
-  one_seat h hf ht hv = rw (h, hf, ht, hv) (record { holds = refl })
+  one_seat h hf ht hv = rw (h, hf, ht, hv) refl
 
 -- a choice without a slot stores nothing, another its edge
 module _ (y : Choices) (k : ℕ) (e : Edges) where
-  pub no_choice : entry_at y.entries k ≡ 0 → Appends (appending_choices y) e (place_at y.entries k) e
-  no_choice h = append_nothing (appending_choices y) e (rw (eq-eqb _ _ h))
+  pub no_choice : entry_at y.entries k ≡ 0 → e ≡ store_choices y e (place_at y.entries k)
+  no_choice h = rw (eq-eqb _ _ h, choices_none)
 
   pub one_choice : {f t m : ℕ} → entry_at y.entries k ≢ 0 → f ≡ choice_node y.sizes k → t ≡ choice_to y.sizes y.entries k → m ≡ choice_max y.mins y.maxs k
-      → Appends (appending_choices y) e (place_at y.entries k) (edge_pushed e f t m (pos 0))
+      → edge_pushed e f t m (pos 0) ≡ store_choices y e (place_at y.entries k)
   unfolding store_choices written
-  one_choice h hf ht hm = rw (ne_eqb _ _ h, hf, ht, hm) (record { holds = refl })
+  one_choice h hf ht hm = rw (ne_eqb _ _ h, hf, ht, hm) refl
 
 -- ---- room
 
@@ -127,9 +125,9 @@ pub record SeatRoom (e : Edges) (i : EdgeNumbers) (m : ℕ) : Type 0 where
   pub numbers : i.count + m ≤ 2080
 
 -- what had room for m has room for m' after some seats' edges
-pub room_after : (o : Offer) {b b' : Indexed} {qs : List Seat} {m : ℕ} (m' : ℕ) → Appends (appending_seats o) b qs b' → SeatRoom b.edges b.index m → length qs + m' ≤ m → SeatRoom b'.edges b'.index m'
+pub room_after : (o : Offer) (qs : List Seat) {b b' : Indexed} {m : ℕ} (m' : ℕ) → b' ≡ store_seats o b qs → SeatRoom b.edges b.index m → length qs + m' ≤ m → SeatRoom b'.edges b'.index m'
 unfolding store_seats
-room_after o m' p r h = rw p.holds (record {
+room_after o qs m' p r h = rw p (record {
   edges = record {
     from = simp length_written (omega (arith, r.edges.from));
     to = simp length_written (omega (arith, r.edges.to));
@@ -139,9 +137,9 @@ room_after o m' p r h = rw p.holds (record {
   numbers = omega (arith, r.numbers);
 })
 
-pub choices_room : (y : Choices) {e e' : Edges} {ks : List ℕ} {m : ℕ} (m' : ℕ) → Appends (appending_choices y) e ks e' → Room e m → length ks + m' ≤ m → Room e' m'
+pub choices_room : (y : Choices) (ks : List ℕ) {e e' : Edges} {m : ℕ} (m' : ℕ) → e' ≡ store_choices y e ks → Room e m → length ks + m' ≤ m → Room e' m'
 unfolding store_choices
-choices_room y m' p r h = rw p.holds (record {
+choices_room y ks m' p r h = rw p (record {
   from = simp length_written (omega (arith, r.from));
   to = simp length_written (omega (arith, r.to));
   max = simp length_written (omega (arith, r.max));

@@ -3,7 +3,6 @@ pub mod Lengths
 pub mod Answers
 pub mod Answered
 pub mod Buffers
-pub mod Appending
 pub mod Stored
 pub mod StoredLaws
 pub mod Lent

@@ -1,13 +1,13 @@
 -- Laws of a part of the groups' buffers that is filled from its front. Assumes nothing.
 use Rattle.std.specs.Prelude.{ℕ, ◌+◌, ◌≡◌, refl, List, [], ◌++◌, length}
 use Rattle.std.proofs.Common.{add-zero, add_assoc, length-append}
+use Rattle.counting.specs.FoldLaws.{fold_none, fold_more}
 use Rattle.counting.specs.Written.{written}
 use Rattle.counting.specs.WrittenLaws.{written_append, length_written}
 use Rattle.model_buffers.specs.declared.groups.Groups.{Groups}
 use Rattle.model_buffers.specs.declared.groups.Part.{Part}
 use Rattle.model_buffers.specs.declared.groups.Part.TheVariants.{Entries, Blocked}
 use Rattle.model_buffers.specs.Stored.{part_used, part_size, filled}
-use Rattle.model_buffers.specs.Appending.{Appending, Appends, append_nothing}
 
 pub filled_none : (part : Part) (g : Groups) → filled part g [] ≡ g
 unfolding written
@@ -18,12 +18,8 @@ pub filled_append : (part : Part) (g : Groups) (xs ys : List ℕ) → filled par
 filled_append Entries g xs ys = simp (written_append, length-append, add_assoc)
 filled_append Blocked g xs ys = simp (written_append, length-append, add_assoc)
 
-abbrev pub filling : Part → Appending Groups ℕ
-filling part = record { append = filled part; append_none = filled_none part; append_append = filled_append part }
-
--- nothing was stored
-pub fill_nothing : (part : Part) (g : Groups) → Appends (filling part) g [] g
-fill_nothing part g = append_nothing (filling part) g refl
+-- how one run of stores follows another
+pub ruleset fill_laws = (fold_none, fold_more, filled_none, filled_append)
 
 used_more : (part : Part) (g : Groups) (xs : List ℕ) → part_used part (filled part g xs) ≡ part_used part g + length xs
 used_more Entries g xs = refl
@@ -37,12 +33,12 @@ ends_kept : (part : Part) (g : Groups) (xs : List ℕ) → (length (filled part 
 ends_kept Entries g xs = (refl, refl)
 ends_kept Blocked g xs = (refl, refl)
 
-module _ (part : Part) {g g' : Groups} {xs : List ℕ} (p : Appends (filling part) g xs g') where
+module _ (part : Part) (g : Groups) (xs : List ℕ) {g' : Groups} (p : g' ≡ filled part g xs) where
   pub fill_used : part_used part g' ≡ part_used part g + length xs
-  fill_used = rw p.holds (used_more part g xs)
+  fill_used = rw p (used_more part g xs)
 
   pub fill_long : part_size part g' ≡ part_size part g
-  fill_long = rw p.holds (size_kept part g xs)
+  fill_long = rw p (size_kept part g xs)
 
   pub fill_ends : (length g'.ends.now ≡ length g.ends.now) × (g'.ends_used ≡ g.ends_used)
-  fill_ends = rw p.holds (ends_kept part g xs)
+  fill_ends = rw p (ends_kept part g xs)

@@ -7,7 +7,8 @@ use crate::{Asked, CachedAssignment, Search, SearchAnswer};
 use refusal::Refusal;
 use scheduling::Scheduling;
 
-// Zeros, which are a search that has ended.
+// Zeros, which are a search that has ended. Kept apart: an answer that is not refused is then stored once less.
+#[inline(never)]
 fn no_search() -> Search
     ensures { result ≡ no_search }
 {

@@ -1,5 +1,5 @@
 // A search and what it remembers as a call is lent them: bytes, which contracts see as the structs that they stand for.
-ghost use Rattle.std.specs.Prelude.{◌≡◌, length};
+ghost use Rattle.std.specs.Prelude.{◌≡◌, ◌≤◌, ◌+◌, length, take, drop};
 ghost use Rattle.assignment.specs.Calls.{seats};
 ghost use Rattle.assignment.specs.Laws.{Small};
 ghost use Rattle.preference_search.specs.Answered.{range_by};
@@ -21,14 +21,12 @@ pub fn seats(day: &Day) -> usize
     day.choosers() * day.slots()
 }
 
-// Bytes as an array.
-fn array_of<const N: usize>(b: &[u8]) -> [u8; N]
-    requires { length b.now ≡ N }
-    ensures { result ≡ b.now }
+// The bytes from a place on, as an array.
+fn array_at<'a, const N: usize>(bytes: &'a [u8], at: usize) -> &'a [u8; N]
+    requires { at + N ≤ length bytes.now }
+    ensures { result.now ≡ take N (drop at bytes.now) }
 {
-    let mut out = [0; N];
-    out.copy_from_slice(b);
-    out
+    bytes[at..at + N].try_into().unwrap()
 }
 
 // Whether two schedules are equal, over the day's choices.
@@ -69,18 +67,16 @@ impl<'a> LentCached<'a> {
         flag(self.bytes, 0)
     }
 
-    pub fn schedule(&self) -> &'a [u8]
-        ensures entries { result.now ≡ self.now.schedule.entries }
-        ensures long { length result.now ≡ 32 }
+    pub fn schedule(&self) -> &'a [u8; 32]
+        ensures { result.now ≡ self.now.schedule.entries }
     {
-        &self.bytes[2..34]
+        array_at(self.bytes, 2)
     }
 
-    pub fn plan(&self) -> &'a [u8]
-        ensures plan { result.now ≡ self.now.plan }
-        ensures long { length result.now ≡ 512 }
+    pub fn plan(&self) -> &'a [u8; 512]
+        ensures { result.now ≡ self.now.plan }
     {
-        &self.bytes[34..546]
+        array_at(self.bytes, 34)
     }
 
     // Whether it answers a search of this schedule with this greedy setting.
@@ -102,9 +98,9 @@ impl<'a> LentCached<'a> {
             there: flag(self.bytes, 0),
             greedy: flag(self.bytes, 1),
             schedule: Scheduling {
-                entries: array_of(&self.bytes[2..34]),
+                entries: *self.schedule(),
             },
-            plan: array_of(&self.bytes[34..546]),
+            plan: *self.plan(),
         }
     }
 }
@@ -173,18 +169,16 @@ impl<'a> LentSearch<'a> {
         }
     }
 
-    pub fn schedule(&self) -> &'a [u8]
-        ensures entries { result.now ≡ self.now.schedule.entries }
-        ensures long { length result.now ≡ 32 }
+    pub fn schedule(&self) -> &'a [u8; 32]
+        ensures { result.now ≡ self.now.schedule.entries }
     {
-        &self.bytes[24..56]
+        array_at(self.bytes, 24)
     }
 
-    pub fn plan(&self) -> &'a [u8]
-        ensures plan { result.now ≡ self.now.plan }
-        ensures long { length result.now ≡ 512 }
+    pub fn plan(&self) -> &'a [u8; 512]
+        ensures { result.now ≡ self.now.plan }
     {
-        &self.bytes[56..568]
+        array_at(self.bytes, 56)
     }
 
     // What it remembers.
@@ -201,7 +195,7 @@ impl<'a> LentSearch<'a> {
         Known {
             found: flag(self.bytes, 2),
             level: word(self.bytes, 8),
-            plan: array_of(&self.bytes[56..568]),
+            plan: *self.plan(),
             optimal: mark,
         }
     }

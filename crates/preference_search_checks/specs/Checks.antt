@@ -68,18 +68,6 @@ held_number d s count t =
 unfoldable pub tell_number : Limits → InputData → Search → List ℕ → Told → ℕ
 tell_number l d s levels t = day_number l d (beside_levels d levels (wrong_length l t)) (held_number d s (length levels) t)
 
--- ---- on lent bytes, beside a day that is read
-
-unfoldable pub begin_read_number : Limits → InputData → List ℕ → List ℕ → List ℕ → ℕ
-begin_read_number l d sch levels c =
-    day_number l d (beside_levels d levels (not_schedule sch || not_cached c))
-    (first_of (outside d (schedule_of sch) || outside_cached d (cached_in c)) 11
-    (first_of (bad_cached d (cached_in c)) 13 0))
-
-unfoldable pub tell_read_number : Limits → InputData → List ℕ → List ℕ → Told → ℕ
-tell_read_number l d s levels t =
-    day_number l d (beside_levels d levels (not_search s || wrong_length l t)) (held_number d (search_in s) (length levels) t)
-
 -- ---- on lent bytes
 
 abbrev pub begin_lent_number : Limits → List ℕ → List ℕ → List ℕ → List ℕ → ℕ

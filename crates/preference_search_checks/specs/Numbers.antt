@@ -19,7 +19,8 @@ use Rattle.preference_search.specs.Bytes.{IsCached, IsSearch, not_cached, not_se
 use Rattle.preference_search.specs.Laws.{HasSeats, Ranged}
 use Rattle.preference_search.specs.Search.{Told, is_feasible}
 use Rattle.preference_search.specs.declared.Search.{Search}
-use Rattle.preference_search_checks.specs.Checks.{beside_levels, wrong_length, outside_cached, begin_number, bad_range, spent_at, spent, bad_cached, bad_told, held_number, tell_number, begin_read_number, tell_read_number, begin_lent_number, tell_lent_number}
+use Rattle.preference_search_checks.specs.Read.{begin_read_number, tell_read_number}
+use Rattle.preference_search_checks.specs.Checks.{beside_levels, wrong_length, outside_cached, begin_number, bad_range, spent_at, spent, bad_cached, bad_told, held_number, tell_number, begin_lent_number, tell_lent_number}
 
 -- what begin works with
 pub record Opening (d : InputData) (sch levels : List ℕ) : Type 0 where

@@ -11,7 +11,8 @@ ghost use Rattle.preference_search.specs.Answered.{told_by};
 ghost use Rattle.preference_search.specs.Bytes.{cached_in, search_in};
 ghost use Rattle.preference_search.specs.Laws.{HasSeats};
 ghost use Rattle.preference_search.specs.Search.{is_feasible};
-ghost use Rattle.preference_search_checks.specs.Checks.{bad_cached, bad_if, bad_plans, begin_read_number, beside_levels, held_number, outside_cached, spent, tell_read_number, wrong_length};
+ghost use Rattle.preference_search_checks.specs.Checks.{bad_cached, bad_if, bad_plans, beside_levels, held_number, outside_cached, spent, wrong_length};
+ghost use Rattle.preference_search_checks.specs.Read.{begin_read_number, tell_read_number};
 ghost use Rattle.preference_search_checks.specs.Numbers.{Holding};
 
 use assignment::bad_plan_for;
@@ -49,7 +50,7 @@ fn beside(day: &Day, levels: &[u32], wrong: bool) -> Beside
 }
 
 // What is remembered is handed on as it is read.
-#[tactic(auto, using(input_data::specs::ReadLaws::day_refused, input_data::specs::ReadLaws::day_passed, crate::specs::Numbers::begin_passed, crate::specs::Numbers::begin_cached), unfolding(crate::specs::Checks::begin_read_number, input_data::specs::Checks::first_of))]
+#[tactic(auto, using(input_data::specs::ReadLaws::day_refused, input_data::specs::ReadLaws::day_passed, crate::specs::Numbers::begin_passed, crate::specs::Numbers::begin_cached), unfolding(crate::specs::Read::begin_read_number, input_data::specs::Checks::first_of))]
 pub fn check_begin<'a>(
     limits: Limits,
     day: &Day,
@@ -139,7 +140,7 @@ fn wrong_length(limits: Limits, told: &Told) -> bool
 }
 
 // The search is handed on as it is read.
-#[tactic(auto, using(input_data::specs::ReadLaws::day_refused, input_data::specs::ReadLaws::day_passed, crate::specs::Numbers::tell_passed, crate::specs::Numbers::tell_search), unfolding(crate::specs::Checks::tell_read_number))]
+#[tactic(auto, using(input_data::specs::ReadLaws::day_refused, input_data::specs::ReadLaws::day_passed, crate::specs::Numbers::tell_passed, crate::specs::Numbers::tell_search), unfolding(crate::specs::Read::tell_read_number))]
 pub fn check_tell<'a>(
     limits: Limits,
     day: &Day,

@@ -85,7 +85,7 @@ impl Standing {
 
     // An ask for the level of this index. It is counted.
     pub fn ask(self, level: u32, index: u32, known: Known, cached: CachedAssignment) -> Asked
-        requires { self.asks ≤ 256 }
+        requires { self.asks < u32.MAX }
         ensures { asked_by result ≡ search_answer level index (search_at true (counted self) known cached) }
     {
         let counted = Standing {

@@ -37,7 +37,7 @@ pub record RosterIn (of : Roster) (d : InputData) (plan : List ℕ) (size : ℕ)
   pub few : rows_of of d ≤ 64
   pub short : d.slots ≤ 8
   pub chooser : chooser_of of < 64
-  pub inside : (i : ℕ) → i < rows_of of d → (row_of of d i).base + d.slots ≤ length plan
+  pub inside : (i : ℕ) → i < rows_of of d → (row_of of d.slots i).base + d.slots ≤ length plan
   pub room : length (roster_of of d plan) ≤ size
 
 -- ---- one value
@@ -113,7 +113,7 @@ seat_skip plan r s {to = to} {d = d} p e = put_step (seat_of plan r) p (put_no r
 
 -- what the i-th row adds
 abbrev pub run_at : Roster → InputData → List ℕ → ℕ → List ℕ
-run_at of d plan i = run_of d.slots plan (row_of of d i)
+run_at of d plan i = run_of d.slots plan (row_of of d.slots i)
 
 pub runs : (of : Roster) (d : InputData) (plan : List ℕ) → join_to (rows_of of d) (run_at of d plan) ≡ roster_of of d plan
 unfolding choosers_ordered choices_ordered
@@ -121,11 +121,11 @@ runs (ChoosersOf k) d plan = refl
 runs (ChoicesOf c) d plan = refl
 
 -- the next row has room
-pub row_in : (of : Roster) (d : InputData) (plan : List ℕ) {i at slots : ℕ} {r : Row} {b₀ b : List ℕ} → RosterIn of d plan (length b₀) → i < rows_of of d → Put (one_buffer ℕ) b₀ 0 (join_to i (run_at of d plan)) b at → slots ≡ d.slots → r ≡ row_of of d i → RowIn slots plan r at (length b)
-row_in of d plan {i = i} p h q e f = rw (e, f) (record { inside = p.inside i h; room = run_room (run_at of d plan) h q (omega (arith, ap length (runs of d plan), p.room)) })
+pub row_in : (of : Roster) (d : InputData) (plan : List ℕ) {i at slots : ℕ} {r : Row} {b₀ b : List ℕ} → RosterIn of d plan (length b₀) → i < rows_of of d → Put (one_buffer ℕ) b₀ 0 (join_to i (run_at of d plan)) b at → slots ≡ d.slots → r ≡ row_of of slots i → RowIn slots plan r at (length b)
+row_in of d plan {i = i} p h q e f = rw (f, e) (record { inside = p.inside i h; room = run_room (run_at of d plan) h q (omega (arith, ap length (runs of d plan), p.room)) })
 
-pub rows_more : (of : Roster) (d : InputData) (plan : List ℕ) (i : ℕ) {at to slots : ℕ} {r : Row} {b₀ b b' : List ℕ} → Put (one_buffer ℕ) b₀ 0 (join_to i (run_at of d plan)) b at → slots ≡ d.slots → r ≡ row_of of d i → Put (one_buffer ℕ) b at (run_of slots plan r) b' to → Put (one_buffer ℕ) b₀ 0 (join_to (i + 1) (run_at of d plan)) b' to
-rows_more of d plan i p e f q = put_step (run_at of d plan) p (rw (e, f) at q)
+pub rows_more : (of : Roster) (d : InputData) (plan : List ℕ) (i : ℕ) {at to slots : ℕ} {r : Row} {b₀ b b' : List ℕ} → Put (one_buffer ℕ) b₀ 0 (join_to i (run_at of d plan)) b at → slots ≡ d.slots → r ≡ row_of of slots i → Put (one_buffer ℕ) b at (run_of slots plan r) b' to → Put (one_buffer ℕ) b₀ 0 (join_to (i + 1) (run_at of d plan)) b' to
+rows_more of d plan i p e f q = put_step (run_at of d plan) p (rw (f, e) at q)
 
 pub rows_all : (of : Roster) (d : InputData) (plan : List ℕ) (n i : ℕ) {at : ℕ} {b₀ b : List ℕ} → n ≡ rows_of of d → n ≤ i → i ≤ n → Put (one_buffer ℕ) b₀ 0 (join_to i (run_at of d plan)) b at → Put (one_buffer ℕ) b₀ 0 (roster_of of d plan) b at
 rows_all of d plan n i e h g p = put_eq (runs of d plan) (put_all (run_at of d plan) (omega arith) p)

@@ -22,9 +22,9 @@ rows_of (ChoosersOf k) d = d.choosers
 rows_of (ChoicesOf c) d = d.choices
 
 -- the row of the i-th of them
-abbrev pub row_of : Roster → InputData → ℕ → Row
-row_of (ChoosersOf k) d i = record { base = i * d.slots; choice = k; value = i }
-row_of (ChoicesOf c) d i = record { base = c * d.slots; choice = i; value = i }
+abbrev pub row_of : Roster → ℕ → ℕ → Row
+row_of (ChoosersOf k) slots i = record { base = i * slots; choice = k; value = i }
+row_of (ChoicesOf c) slots i = record { base = c * slots; choice = i; value = i }
 
 -- what a row adds
 abbrev pub run_of : ℕ → List ℕ → Row → List ℕ

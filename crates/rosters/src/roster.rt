@@ -47,19 +47,19 @@ impl Roster {
     }
 
     // The row of the i-th that may be listed.
-    fn row(self, day: &Day, i: usize) -> Row
-        requires { (day.now.slots ≤ 8) × (chooser_of self < 64) × (i < 64) }
-        ensures { result ≡ row_of self day.now i }
+    fn row(self, slots: usize, i: usize) -> Row
+        requires { (slots ≤ 8) × (chooser_of self < 64) × (i < 64) }
+        ensures { result ≡ row_of self slots i }
     {
         let value = i as u8;
         match self {
             Roster::ChoosersOf(choice) => Row {
-                base: i * day.slots(),
+                base: i * slots,
                 choice,
                 value,
             },
             Roster::ChoicesOf(chooser) => Row {
-                base: chooser * day.slots(),
+                base: chooser * slots,
                 choice: i,
                 value,
             },
@@ -87,9 +87,10 @@ fn put_rows(day: &Day, plan: &[u8], of: Roster, roster: &mut [u8]) -> usize
     requires { RosterIn of day.now plan.now (length roster.old) }
     ensures { Put (one_buffer _) roster.old 0 (roster_of of day.now plan.now) roster.new result }
 {
+    let slots = day.slots();
     let mut at = 0;
     for i in 0..of.rows(day) {
-        at = put_row(day.slots(), plan, of.row(day, i), roster, at);
+        at = put_row(slots, plan, of.row(slots, i), roster, at);
     }
     at
 }

@@ -22,7 +22,6 @@ use Rattle.input_data.specs.declared.checks.Beside.{Beside}
 use Rattle.feasibility.specs.Checks.{bad_seats, parts_number}
 use Rattle.feasibility.specs.Feasible.{schedule_feasible, plan_feasible}
 use Rattle.feasibility.specs.Laws.{Schedulable, Judged, Parted}
-use Rattle.plan_score.specs.Evaluate.{evaluated}
 use Rattle.plan_score.specs.Laws.{Weighed}
 use Rattle.refusal.specs.Number.{number, outcome}
 use Rattle.refusal.specs.Laws.{some_number}
@@ -35,7 +34,7 @@ use Rattle.scheduling.specs.declared.Scheduling.{Scheduling}
 use Rattle.seat_counts.specs.Laws.{Reading}
 use Rattle.slot_lists.specs.SumsLaws.{Weighs}
 use Rattle.scoring.specs.Answered.{looked_at, verdict_answered, score_answered}
-use Rattle.scoring.specs.Calls.{verdict_of, beside_none, schedule_number, schedule_answer, verdict_number, plan_answer, has_schedule, scored, evaluate_number, evaluate_lent_number, evaluate_lent, schedule_lent, plan_lent}
+use Rattle.scoring.specs.Calls.{verdict_of, beside_none, schedule_number, schedule_answer, verdict_number, plan_answer, has_schedule, evaluate_number, evaluate_lent_number, evaluate_lent, schedule_lent, plan_lent}
 use Rattle.scoring.specs.Handed.{Parts, parts, with_plan, beside_scoring, schedule_handed, parts_handed, solution_handed, parts_scored, parts_lent}
 use Rattle.scoring.specs.Solution.{Solution}
 use Rattle.score.specs.declared.Score.{Score}

@@ -1,6 +1,6 @@
 -- What the calls leave, refused or done. Assumes nothing.
-use Rattle.std.specs.Prelude.{ℕ, ◌≡◌, refl, false, List, Ok, Err, eqb, ℤ}
-use Rattle.std.proofs.Common.{sym, ◌∙◌, ne_eqb}
+use Rattle.std.specs.Prelude.{ℕ, ◌≡◌, refl, false, List, Ok, eqb, ℤ}
+use Rattle.std.proofs.Common.{◌∙◌, ne_eqb}
 use Rattle.counting.specs.Written.{written}
 use Rattle.refusal.specs.Laws.{some_number}
 use Rattle.refusal.specs.Number.{number}

@@ -20,12 +20,12 @@ use Rattle.counting.specs.Sums.{grid_lt}
 use Rattle.counting.specs.Tests.{lt_cases, or_split}
 use Rattle.counting.specs.Written.{written}
 use Rattle.counting.specs.WrittenLaws.{written_at, length_written}
-use Rattle.input_data.specs.Bytes.{IsDay, lent_number}
+use Rattle.input_data.specs.Bytes.{lent_number}
 use Rattle.input_data.specs.Lengths.{Within, edges_length, supplies_length, plan_length}
 use Rattle.input_data.specs.declared.Limits.{Limits}
 use Rattle.scheduling.specs.Schedule.{entry_at}
 use Rattle.schedule_state.specs.Bytes.{not_state}
-use Rattle.schedule_state.specs.Good.{choosers_most, choices_most, slots_most, part_in}
+use Rattle.schedule_state.specs.Good.{choosers_most, choices_most, slots_most}
 use Rattle.mip_flow_static_data.specs.Nodes.{node_count, chooser_supply, choice_supply, slot_supply, supplies}
 use Rattle.model_buffers.specs.Buffers.{Buffers, lengths_of}
 use Rattle.model_buffers.specs.Lengths.{short_values}

@@ -1,15 +1,11 @@
 use Rattle.std.proofs.Common.{◌<◌, ◌≡◌, arith, rules}
 use Rattle.counting.specs.Fold.{table_to}
 use Rattle.scheduling.specs.Schedule.{entry_at}
-use Rattle.model_buffers.specs.Appending.{append_start, append_step, append_all, append_eq}
 use Rattle.mip_flow.specs.IndexLaws.{number_at}
-use Rattle.edge_groups.specs.Bounds.{room_after, groups_few, start_none, start_more, start_within}
+use Rattle.edge_groups.specs.Bounds.{room_after, groups_few, start_more, start_within}
 use Rattle.edge_groups.specs.Grouping.{part_ends, part_long, part_choices, part_names}
-use Rattle.edge_groups.specs.Names.{dependent_names}
+use Rattle.edge_groups.specs.Stored.{groups_laws}
 use Rattle.create_edge_groups.proofs.put_dependent.Goals as goal
-
-pub loop-g-init : goal.loop-g-init
-loop-g-init c = (start_none _, append_start _ _ _)
 
 pub overflow_add-end : goal.overflow_add-end
 overflow_add-end c = omega (arith, part_ends c.requires.1 (omega arith) c.loop-g.invariant.0 c.group_length.ensures.0)
@@ -33,7 +29,7 @@ put_group-requires c =
     let long = part_long p.1 b v.0 e.group_length.ensures.0 m in (
       p.0,
       part_choices p.1 b v.0 e.group_length.ensures.0 m,
-      room_after _ _ _ v.1 p.2 (groups_few (number_at a.index.now.numbers) a.sizes a.schedule.now d.lengths d.members p.0 g)
+      room_after _ _ _ _ _ v.1 p.2 (groups_few (number_at a.index.now.numbers) a.sizes a.schedule.now d.lengths d.members p.0 g)
           (omega (arith, long, start_within d.lengths g d.groups b, p.1.few)) (omega (arith, p.1.count)),
     )
 
@@ -44,11 +40,6 @@ loop-g-preserved c =
     let d = a.day.now in
     let v = e.loop-g.invariant in
     let b : e.loop-g.g < d.groups = omega arith in
-    let m : e.table-members.result ≡ table_to 32 (entry_at d.members) = e.table-members.ensures (entry_at d.members) (λ k h x q. search rules) in (
-      rw e.group_length.ensures.0 (start_more _ _ v.0),
-      append_step _ v.1 (append_eq (part_names e.requires.1 b v.0 e.group_length.ensures.0 m (number_at a.index.now.numbers) a.sizes a.schedule.now) e.put_group.ensures),
-    )
-
-pub returns : goal.returns
-unfolding dependent_names
-returns c = append_all _ (omega arith) c.loop-g.invariant.1
+    let m : e.table-members.result ≡ table_to 32 (entry_at d.members) = e.table-members.ensures (entry_at d.members) (λ k h x q. search rules) in
+    let names = part_names e.requires.1 b v.0 e.group_length.ensures.0 m (number_at a.index.now.numbers) a.sizes a.schedule.now in
+    (rw e.group_length.ensures.0 (start_more _ _ v.0), grind (arith, groups_laws))

@@ -1,10 +1,8 @@
 use Rattle.std.proofs.Common.{arith}
 use Rattle.slot_lists.specs.Parts.{list_length, list_entry}
-use Rattle.model_buffers.specs.Appending.{append_then}
 use Rattle.mip_flow.specs.IndexLaws.{number_at}
 use Rattle.edge_groups.specs.Bounds.{room_after, list_few}
-use Rattle.edge_groups.specs.Names.{names}
-use Rattle.edge_groups.specs.Stored.{groups_same}
+use Rattle.edge_groups.specs.Stored.{groups_same_then}
 use Rattle.create_edge_groups.proofs.put_groups.Goals as goal
 
 pub put_dependent-requires : goal.put_dependent-requires
@@ -14,12 +12,8 @@ put_dependent-requires c =
     let g = e.requires in (
       g.choosers,
       g.dependent,
-      room_after _ 2048 1024 (rw e.assignment.ensures at e.put_constraints.ensures) g.room (list_few (number_at a.index.now.numbers) a.sizes (list_length a.lists.now) (list_entry a.lists.now) g.listed.few a.day.now.assignment g.constraints.count) (omega arith) (omega arith),
+      room_after _ _ _ 2048 1024 (rw e.assignment.ensures at e.put_constraints.ensures) g.room (list_few (number_at a.index.now.numbers) a.sizes (list_length a.lists.now) (list_entry a.lists.now) g.listed.few a.day.now.assignment g.constraints.count) (omega arith) (omega arith),
     )
 
-pub returns-clause-stores : goal.returns-clause-stores
-unfolding names
-returns-clause-stores c = append_then (rw c.assignment.ensures at c.put_constraints.ensures) c.put_dependent.ensures
-
 pub returns-clause-same : goal.returns-clause-same
-returns-clause-same c = groups_same _ (append_then c.put_constraints.ensures c.put_dependent.ensures)
+returns-clause-same c = groups_same_then _ _ _ _ _ c.put_constraints.ensures c.put_dependent.ensures

@@ -1,11 +1,7 @@
 use Rattle.std.proofs.Common.{length, arith}
-use Rattle.model_buffers.specs.Appending.{append_start, append_step, append_all}
 use Rattle.mip_flow.specs.IndexLaws.{number_at}
 use Rattle.edge_groups.specs.Bounds.{room_after, choosers_few, row_le}
 use Rattle.dependent_groups.proofs.put_choosers.Goals as goal
-
-pub loop-c-init : goal.loop-c-init
-loop-c-init c = append_start _ _ _
 
 pub put_chooser-requires : goal.put_chooser-requires
 put_chooser-requires c =
@@ -13,10 +9,4 @@ put_chooser-requires c =
     let a = e.args in
     let i = e.loop-c.c in
     let m = length a.group.now in
-    (omega arith, e.requires.1, room_after _ _ _ e.loop-c.invariant e.requires.2 (choosers_few (number_at a.index.now.numbers) a.schedule.now a.group.now 0 m i) (row_le i a.choosers m e.loop-c-test.true) (omega arith))
-
-pub loop-c-preserved : goal.loop-c-preserved
-loop-c-preserved c = append_step _ c.loop-c.invariant c.put_chooser.ensures
-
-pub returns : goal.returns
-returns c = append_all _ (omega arith) c.loop-c.invariant
+    (omega arith, e.requires.1, room_after _ _ _ _ _ e.loop-c.invariant e.requires.2 (choosers_few (number_at a.index.now.numbers) a.schedule.now a.group.now 0 m i) (row_le i a.choosers m e.loop-c-test.true) (omega arith))

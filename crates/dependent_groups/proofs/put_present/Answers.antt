@@ -1,15 +1,10 @@
-use Rattle.std.proofs.Common.{ap, length, zero-add, arith}
+use Rattle.std.proofs.Common.{arith}
 use Rattle.counting.specs.Fold.{join_to}
-use Rattle.model_buffers.specs.Appending.{append_start, append_step, append_all, append_eq}
 use Rattle.model_buffers.specs.StoredLaws.{fill_used, fill_long}
 use Rattle.mip_flow.specs.IndexLaws.{number_at}
 use Rattle.edge_groups.specs.Bounds.{present_length, members_length}
-use Rattle.edge_groups.specs.Names.{member_name_at, chooser_names}
-use Rattle.edge_groups.specs.Stored.{present_each}
+use Rattle.edge_groups.specs.Names.{member_name_at}
 use Rattle.dependent_groups.proofs.put_present.Goals as goal
-
-pub loop-k-init : goal.loop-k-init
-loop-k-init c = append_start _ _ _
 
 pub put_member-requires : goal.put_member-requires
 put_member-requires c =
@@ -19,11 +14,4 @@ put_member-requires c =
     let p = e.loop-k.invariant in
     let f = member_name_at (number_at a.index.now.numbers) a.schedule.now a.group.now 0 a.c in
     let few = members_length (number_at a.index.now.numbers) a.schedule.now a.group.now 0 a.c i in
-    (e.requires.0, e.requires.1 i e.loop-k-test.true, omega (arith, fill_used a.part p, fill_long a.part p, ap length (present_each a.index.now.count f i), present_length a.index.now.count (join_to i f), few))
-
-pub loop-k-preserved : goal.loop-k-preserved
-loop-k-preserved c = append_step _ c.loop-k.invariant (rw zero-add c.put_member.ensures)
-
-pub returns : goal.returns
-unfolding chooser_names
-returns c = append_eq (present_each _ _ _) (append_all _ (omega arith) c.loop-k.invariant)
+    (e.requires.0, e.requires.1 i e.loop-k-test.true, omega (arith, fill_used a.part _ _ p, fill_long a.part _ _ p, present_length a.index.now.count (join_to i f), few))

@@ -1,8 +1,8 @@
+use Rattle.std.proofs.Common.{◌≡◌}
 use Rattle.counting.specs.Fold.{join_to}
-use Rattle.model_buffers.specs.Appending.{Appends}
 use Rattle.mip_flow.specs.Edges.{place_at}
-use Rattle.mip_flow.specs.Stored.{choices_of, appending_choices}
+use Rattle.mip_flow.specs.Stored.{choices_of, store_choices}
 use Rattle.flow_edges.proofs.put_choices.Given as goal
 
 abbrev pub invariant-loop-k : goal.invariant-loop-k
-invariant-loop-k l = Appends (appending_choices (choices_of l.sizes l.schedule l.day.mins l.day.maxs)) l.initial.edges (join_to l.k (place_at l.schedule)) l.edges
+invariant-loop-k l = l.edges ≡ store_choices (choices_of l.sizes l.schedule l.day.mins l.day.maxs) l.initial.edges (join_to l.k (place_at l.schedule))

@@ -1,22 +1,10 @@
 use Rattle.std.proofs.Common.{◌<◌, arith}
-use Rattle.model_buffers.specs.Appending.{append_start, append_step, append_all}
 use Rattle.slot_lists.specs.Parts.{list_length}
-use Rattle.mip_flow.specs.Edges.{chooser_seats}
 use Rattle.mip_flow.specs.Stored.{room_after, slots_most, lists_below}
 use Rattle.flow_edges.proofs.put_chooser_seats.Goals as goal
-
-pub loop-s-init : goal.loop-s-init
-loop-s-init c = append_start _ _ _
 
 pub put_slot_seats-requires : goal.put_slot_seats-requires
 put_slot_seats-requires c =
     let p = c.requires in
     let b : c.loop-s.s < c.args.offer.now.sizes.slots = omega arith in
-    (p.0, p.1, b, room_after _ _ c.loop-s.invariant p.2 (omega (arith, slots_most, lists_below (list_length c.args.lists.now) _ _ b)))
-
-pub loop-s-preserved : goal.loop-s-preserved
-loop-s-preserved c = append_step _ c.loop-s.invariant c.put_slot_seats.ensures
-
-pub returns : goal.returns
-unfolding chooser_seats
-returns c = append_all _ (omega arith) c.loop-s.invariant
+    (p.0, p.1, b, room_after _ _ _ c.loop-s.invariant p.2 (omega (arith, slots_most, lists_below (list_length c.args.lists.now) _ _ b)))

@@ -1,9 +1,9 @@
+use Rattle.std.proofs.Common.{◌≡◌}
 use Rattle.counting.specs.Fold.{join_to}
 use Rattle.slot_lists.specs.Parts.{list_length, list_entry}
-use Rattle.model_buffers.specs.Appending.{Appends}
 use Rattle.mip_flow.specs.Edges.{chooser_seats}
-use Rattle.mip_flow.specs.Stored.{with_index, appending_seats}
+use Rattle.mip_flow.specs.Stored.{with_index, store_seats}
 use Rattle.flow_edges.proofs.put_seats.Given as goal
 
 abbrev pub invariant-loop-c : goal.invariant-loop-c
-invariant-loop-c l = Appends (appending_seats l.offer) (with_index l.initial.edges l.initial.index) (join_to l.c (chooser_seats l.offer (list_length l.lists) (list_entry l.lists))) (with_index l.edges l.index)
+invariant-loop-c l = with_index l.edges l.index ≡ store_seats l.offer (with_index l.initial.edges l.initial.index) (join_to l.c (chooser_seats l.offer (list_length l.lists) (list_entry l.lists)))

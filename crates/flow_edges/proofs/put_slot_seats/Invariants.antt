@@ -1,9 +1,9 @@
+use Rattle.std.proofs.Common.{◌≡◌}
 use Rattle.counting.specs.Fold.{join_to}
 use Rattle.scheduling.specs.Schedule.{entry_at}
-use Rattle.model_buffers.specs.Appending.{Appends}
 use Rattle.mip_flow.specs.Edges.{listed_seat}
-use Rattle.mip_flow.specs.Stored.{with_index, appending_seats}
+use Rattle.mip_flow.specs.Stored.{with_index, store_seats}
 use Rattle.flow_edges.proofs.put_slot_seats.Given as goal
 
 abbrev pub invariant-loop-k : goal.invariant-loop-k
-invariant-loop-k l = Appends (appending_seats l.offer) (with_index l.initial.edges l.initial.index) (join_to l.k-index (listed_seat l.offer l.c l.s (entry_at l.list))) (with_index l.edges l.index)
+invariant-loop-k l = with_index l.edges l.index ≡ store_seats l.offer (with_index l.initial.edges l.initial.index) (join_to l.k-index (listed_seat l.offer l.c l.s (entry_at l.list)))

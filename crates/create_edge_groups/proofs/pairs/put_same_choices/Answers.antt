@@ -1,13 +1,8 @@
 use Rattle.std.proofs.Common.{arith}
 use Rattle.slot_lists.specs.Parts.{list_length, list_entry}
-use Rattle.model_buffers.specs.Appending.{append_start, append_step, append_all}
 use Rattle.mip_flow.specs.IndexLaws.{number_at}
 use Rattle.edge_groups.specs.Bounds.{room_after, slots_few, sum_within}
-use Rattle.edge_groups.specs.Names.{same_choices_names}
 use Rattle.create_edge_groups.proofs.pairs.put_same_choices.Goals as goal
-
-pub loop-s-init : goal.loop-s-init
-loop-s-init c = append_start _ _ _
 
 pub put_slot-requires : goal.put_slot-requires
 put_slot-requires c =
@@ -20,12 +15,5 @@ put_slot-requires c =
       p.1,
       e.loop-s-test.true,
       p.2,
-      room_after _ _ _ e.loop-s.invariant p.3 (slots_few (number_at a.index.now.numbers) (list_length a.lists.now) (list_entry a.lists.now) a.a a.b i) (omega (arith, w, p.2.few)) (omega (arith, w, p.2.few)),
+      room_after _ _ _ _ _ e.loop-s.invariant p.3 (slots_few (number_at a.index.now.numbers) (list_length a.lists.now) (list_entry a.lists.now) a.a a.b i) (omega (arith, w, p.2.few)) (omega (arith, w, p.2.few)),
     )
-
-pub loop-s-preserved : goal.loop-s-preserved
-loop-s-preserved c = append_step _ c.loop-s.invariant c.put_slot.ensures
-
-pub returns : goal.returns
-unfolding same_choices_names
-returns c = append_all _ (omega arith) c.loop-s.invariant
