@@ -1,6 +1,6 @@
 -- What an accepted day and plan satisfy, and answers by their numbers. Definitions and their laws.
-use Rattle.std.specs.Prelude.{Result, Ok, Err, IsErrAnd, ℕ, ◌+◌, ◌*◌, ◌<◌, ◌≤◌, ◌≡◌, refl, Bool, false, cond, not, ◌||◌, List, ◌≢◌, eqb, leb, length}
-use Rattle.std.proofs.Common.{sym, ap, ◌∙◌, mul-le-mul_right, mul-le-mul, suc-mul, arith, ne_eqb, leb-false, eqb-true}
+use Rattle.std.specs.Prelude.{Result, Ok, Err, IsErrAnd, ℕ, ◌<◌, ◌≤◌, ◌≡◌, refl, Bool, false, cond, not, ◌||◌, List, ◌≢◌, eqb, leb, length}
+use Rattle.std.proofs.Common.{sym, ap, ◌∙◌, mul-le-mul, arith, ne_eqb, leb-false, eqb-true}
 use Rattle.std.proofs.lemmas.Bool.{not-false}
 use Rattle.std.proofs.lemmas.Result.{err_from_is_err_and}
 use Rattle.refusal.specs.Number.{number, outcome}
@@ -18,12 +18,9 @@ use Rattle.input_data.specs.Checks.{first_of, day_number}
 use Rattle.input_data.specs.Lengths.{Within, plan_length}
 use Rattle.input_data.specs.declared.Limits.{Limits}
 use Rattle.input_data.specs.declared.InputData.{InputData}
+use Rattle.assignment.specs.Inside.{InPlan}
 use Rattle.assignment.specs.Plan.{bad_plan, choice_of, is_in_choice}
 use Rattle.assignment.specs.Calls.{beside_plan, seats, plan_number}
-
--- a row of a table of n rows of m
-pub row_end : {n a : ℕ} (m : ℕ) → a < n → a * m + m ≤ n * m
-row_end {a = a} m h = omega (arith, suc-mul a m, mul-le-mul_right m h)
 
 -- ---- what accepted input satisfies
 
@@ -64,24 +61,19 @@ pub plan_number_lem : (l : Limits) (d : InputData) (plan : List ℕ) (short aske
 unfolding plan_number
 plan_number_lem l d plan short asked w e = plan_accepted l d plan short asked (first_of (bad_plan d.choices (seats d) plan) 13 0) w e
 
--- the row of a chooser of the day is in the plan
-pub chooser_row : (l : Limits) (d : InputData) (plan : List ℕ) (short asked : Bool) (c : ℕ) → Within l → PlanAccepted l d plan short asked → c < d.choosers → (c * d.slots + d.slots ≤ length plan) × (c * d.slots + d.slots ≤ 512)
-chooser_row l d plan short asked c w p h =
-    let e : c * d.slots + d.slots ≤ seats d = row_end d.slots h in
-    (omega (arith, e, p.plan_in), omega (arith, e, p.seats_in, mul-le-mul w.choosers w.slots))
+-- its plan has room for the day's seats
+pub plan_inside : (l : Limits) (d : InputData) (plan : List ℕ) (short asked : Bool) → Within l → 0 ≡ plan_number l d plan short asked → InPlan d.choosers d.slots (length plan)
+plan_inside l d plan short asked w e =
+    let p = plan_number_lem l d plan short asked w (sym e) in
+    let s = small w p.day in
+    record { few = s.choosers; short = s.slots; inside = p.plan_in }
 
 -- a call that is asked about a chooser and something else
-pub asked_row : (l : Limits) (d : InputData) (plan : List ℕ) (c : ℕ) (other : Bool) → Within l → plan_number l d plan false (leb d.choosers c || other) ≡ 0 → (c * d.slots + d.slots ≤ length plan) × (c * d.slots + d.slots ≤ 512)
-asked_row l d plan c other w e =
-    let p = plan_number_lem l d plan false (leb d.choosers c || other) w e in
-    let q : (leb d.choosers c ≡ false) × (other ≡ false) = or_split p.inside in
-    chooser_row l d plan false (leb d.choosers c || other) c w p (leb-false d.choosers c q.0)
+pub asked_chooser : (l : Limits) (d : InputData) (plan : List ℕ) (c : ℕ) (other : Bool) → Within l → 0 ≡ plan_number l d plan false (leb d.choosers c || other) → c < d.choosers
+asked_chooser l d plan c other w e = leb-false d.choosers c (or_split (plan_number_lem l d plan false (leb d.choosers c || other) w (sym e)).inside).0
 
-pub asked_slot : (l : Limits) (d : InputData) (plan : List ℕ) (c s : ℕ) → Within l → plan_number l d plan false (leb d.choosers c || leb d.slots s) ≡ 0 → s < d.slots
-asked_slot l d plan c s w e =
-    let p = plan_number_lem l d plan false (leb d.choosers c || leb d.slots s) w e in
-    let q : (leb d.choosers c ≡ false) × (leb d.slots s ≡ false) = or_split p.inside in
-    leb-false d.slots s q.1
+pub asked_slot : (l : Limits) (d : InputData) (plan : List ℕ) (c s : ℕ) → Within l → 0 ≡ plan_number l d plan false (leb d.choosers c || leb d.slots s) → s < d.slots
+asked_slot l d plan c s w e = leb-false d.slots s (or_split (plan_number_lem l d plan false (leb d.choosers c || leb d.slots s) w (sym e)).inside).1
 
 -- ---- results of calls that are lent a day
 

@@ -3,3 +3,5 @@ pub mod Plan
 pub mod Calls
 pub mod Answered
 pub mod Laws
+pub mod Inside
+pub mod Rows

@@ -2,6 +2,7 @@
 #![tactic(auto)]
 
 mod checks;
+mod rows;
 mod seats;
 
 ghost use Rattle.std.specs.Prelude.{◌≡◌};
@@ -9,7 +10,8 @@ ghost use Rattle.assignment.specs.Answered.{in_choice_answered, choice_answered}
 
 pub use checks::{bad_plan_for, check_plan, kept_plan};
 use refusal::Refusal;
-pub use seats::{choice_of, has_seat, is_in_choice};
+pub use rows::Seats;
+pub use seats::{choice_of, is_in_choice};
 
 #[repr(C)]
 #[derive(Clone, Copy)]

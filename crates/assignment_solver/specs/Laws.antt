@@ -1,5 +1,5 @@
 -- Answers of begin and tell as the code comes to them: by their numbers, and from the parts of a step. Assumes nothing.
-use Rattle.std.specs.Prelude.{refl, Result, Ok, Err, IsErrAnd, ℕ, ◌+◌, ◌<◌, ◌≡◌, Bool, true, false, ◌||◌, ◌&&◌, List}
+use Rattle.std.specs.Prelude.{refl, Result, Ok, Err, IsErrAnd, ℕ, ◌+◌, ◌<◌, ◌≡◌, Bool, false, ◌||◌, ◌&&◌, List}
 use Rattle.std.proofs.Common.{sym, ◌∙◌}
 use Rattle.refusal.specs.Number.{outcome}
 use Rattle.refusal.specs.declared.Refusal.{Refusal}
@@ -13,16 +13,14 @@ use Rattle.preference_search_checks.specs.Numbers.{begin_number_read, tell_numbe
 use Rattle.input_data.specs.declared.InputData.{InputData}
 use Rattle.input_data.specs.declared.Limits.{Limits}
 use Rattle.scheduling.specs.Handed.{schedule_of, not_schedule, kept_of}
-use Rattle.assignment.specs.Calls.{seats}
-use Rattle.preference_search.specs.Search.{LimitSolveResult, Feasible, Infeasible, Incomplete, Told, told, is_feasible, learnt_greedy, middle}
+use Rattle.preference_search.specs.Search.{LimitSolveResult, Feasible, Infeasible, Incomplete, Told, told, is_feasible, middle}
 use Rattle.preference_search.specs.Bytes.{not_cached, not_search, cached_in, search_in}
-use Rattle.preference_search.specs.Steps.{search_refused, begun_answer, over, asked_again, told_greedy, told_range, told_answer}
+use Rattle.preference_search.specs.Steps.{search_refused, begun_answer, asked_again, told_range, told_answer}
 use Rattle.preference_search.specs.Laws.{is_infeasible, told_again}
 use Rattle.preference_search_checks.specs.Checks.{held_number, tell_number}
 use Rattle.preference_search_checks.specs.Read.{begin_read_number, tell_read_number}
 use Rattle.assignment_solver.specs.Calls.{begin_lent, tell_lent}
 use Rattle.preference_search.specs.declared.CachedAssignment.{CachedAssignment}
-use Rattle.preference_search.specs.declared.Known.{Known}
 use Rattle.preference_search.specs.declared.Search.{Search}
 use Rattle.preference_search.specs.declared.SearchAnswer.{SearchAnswer}
 
@@ -60,10 +58,6 @@ tell_looked l day s levels Infeasible plan = refl
 tell_looked l day s levels Incomplete plan = refl
 
 -- ---- what is told, from its parts
-
-module _ (d : InputData) (s : Search) (t : Told) {asks : ℕ} {sch : List ℕ} {k : Known} {c : CachedAssignment} (p₁ : asks ≡ s.asks) (p₂ : sch ≡ kept_of d s.schedule) (p₃ : k ≡ learnt_greedy (seats d) d.max_preference t) (p₄ : c ≡ s.cached) where
-  pub told_greedy_lem : over true asks 0 0 0 sch k c ≡ told_greedy d s t
-  told_greedy_lem = rw (p₁, p₂, p₃, p₄)
 
 pub told_asks : (d : InputData) (s : Search) (levels : List ℕ) (t : Told) (a : SearchAnswer) {m : ℕ} {r : Range} {sch : List ℕ} {mark : Bool} → r ≡ range_by s → m ≡ middle r.low r.high → sch ≡ kept_of d s.schedule → mark ≡ (is_infeasible t.result && s.optimal) → is_feasible t.result ≡ false → m < r.high → a ≡ asked_again levels s (m + 1) s.high sch mark → a ≡ told_range d s levels t
 told_asks d s levels t a p₁ p₂ p₃ p₄ f h q =

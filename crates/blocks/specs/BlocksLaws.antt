@@ -1,6 +1,6 @@
 -- A table of blocks, as the code fills it. Assumes nothing.
 use Rattle.std.specs.Prelude.{ℕ, ◌+◌, ◌<◌, ◌≤◌, ◌/◌, ◌%◌, ◌≡◌, refl, Bool, true, false, not, ◌&&◌, ◌||◌, ◌⊎◌, List, eqb, ltb, length, get_or, set, replicate}
-use Rattle.std.proofs.Common.{sym, ap, ap₂, ◌∙◌, inl, inr, div-add-mod', arith, length-set, ext_get_or, get_or-set_same, get_or-set_other, eq-eqb, lt-ltb, le-ltb}
+use Rattle.std.proofs.Common.{sym, ap, ap₂, ◌∙◌, div-add-mod', arith, length-set, ext_get_or, get_or-set_same, get_or-set_other, eq-eqb, lt-ltb, le-ltb}
 use Rattle.std.proofs.Math.Bool.{or-false}
 use Rattle.std.proofs.lemmas.List.{get_or-replicate}
 use Rattle.counting.specs.Fold.{any_to, table_to}
@@ -28,8 +28,7 @@ pub record Blocked (g : ℕ → ℕ → Bool) (b b' : List Bool) : Type 0 where
   pub at : (c k : ℕ) → c < 64 → k < 32 → get_or b' (cell c k) false ≡ (get_or b (cell c k) false || g c k)
 
 -- what blocking by a constraint asks: the kinds that block name a chooser and a choice
-pub record Blockable (kind chooser x : ℕ) (b : List Bool) : Type 0 where
-  pub long : length b ≡ 2048
+pub record Blockable (kind chooser x : ℕ) : Type 0 where
   pub is_in : kind ≡ 65537 → (chooser < 64) × (x < 32)
   pub is_not_in : kind ≡ 65538 → (chooser < 64) × (x < 32)
 
@@ -41,7 +40,6 @@ pub record Blocking (l : ConstraintList) : Type 0 where
 -- .. with a table in which nothing is blocked
 pub record Unfilled (l : ConstraintList) (b : List Bool) : Type 0 where
   pub blocking : Blocking l
-  pub long : length b ≡ 2048
   pub none : (p : ℕ) → p < 2048 → get_or b p false ≡ false
 
 -- a table of blocks that holds f
@@ -62,9 +60,6 @@ cell_in c k h g = omega arith
 
 pub blocked_ext : {g h : ℕ → ℕ → Bool} {b b' : List Bool} → ((c k : ℕ) → c < 64 → k < 32 → g c k ≡ h c k) → Blocked g b b' → Blocked h b b'
 blocked_ext {b = b} q p = record { long = p.long; at = λ c k x y. p.at c k x y ∙ ap (λ (t : Bool). get_or b (cell c k) false || t) (q c k x y) }
-
-pub blocked_none : {g : ℕ → ℕ → Bool} {b : List Bool} → ((c k : ℕ) → c < 64 → k < 32 → g c k ≡ false) → Blocked g b b
-blocked_none {b = b} q = record { long = refl; at = λ c k x y. sym (ap (λ (t : Bool). get_or b (cell c k) false || t) (q c k x y) ∙ or-false (get_or b (cell c k) false)) }
 
 -- one place is blocked where r holds
 pub blocked_one : (b : List Bool) (a x : ℕ) (r : Bool) → length b ≡ 2048 → a < 64 → x < 32 → Blocked (λ c k. eqb c a && (eqb k x && r)) b (set b (cell a x) (get_or b (cell a x) false || r))
@@ -108,15 +103,12 @@ row_more {chooser = chooser} r {i = i} {b' = b'} {t = t} p n hc hi e =
 
 -- ---- what a list of constraints blocks
 
-pub blockable : {l : ConstraintList} → Blocking l → (j : ℕ) → j < l.count → (b : List Bool) → length b ≡ 2048 → Blockable (kind_number (constraint_at l j).kind) (constraint_at l j).left (target_operand (constraint_at l j).right) b
-blockable h j c b n = record { long = n; is_in = λ e. h.each j c (inl e); is_not_in = λ e. h.each j c (inr e) }
-
 -- the constraints below j
 abbrev pub blocked_to : ConstraintList → List ℕ → ℕ → ℕ → ℕ → Bool
 blocked_to l sch j c k = any_to j (blocks_at l sch c k)
 
-pub blocks_none : {l : ConstraintList} {b : List Bool} (sch : List ℕ) → Unfilled l b → Blocks (blocked_to l sch 0) b
-blocks_none {l = l} sch h = record { long = h.long; at = λ c k x y. h.none (cell c k) (cell_in c k x y) ∙ sym (fold_none ◌||◌ false (blocks_at l sch c k)) }
+pub blocks_none : {l : ConstraintList} {b : List Bool} (sch : List ℕ) → length b ≡ 2048 → Unfilled l b → Blocks (blocked_to l sch 0) b
+blocks_none {l = l} sch n h = record { long = n; at = λ c k x y. h.none (cell c k) (cell_in c k x y) ∙ sym (fold_none ◌||◌ false (blocks_at l sch c k)) }
 
 pub blocks_more : (l : ConstraintList) (sch : List ℕ) (j : ℕ) {con : Constraint} {b b' : List Bool} → Blocks (blocked_to l sch j) b → con ≡ constraint_at l j → Blocked (blocks_by con sch) b b' → Blocks (blocked_to l sch (j + 1)) b'
 blocks_more l sch j p e q = record {
@@ -144,4 +136,4 @@ blocks_table f b h = ext_get_or false b (table_to 2048 (λ p. f (p / 32) (p % 32
     mod_lt p = omega arith
 
 pub unfilled : {l : ConstraintList} → Blocking l → Unfilled l (replicate 2048 false)
-unfilled h = record { blocking = h; long = refl; none = λ p b. get_or-replicate 2048 p false false b }
+unfilled h = record { blocking = h; none = λ p b. get_or-replicate 2048 p false false b }

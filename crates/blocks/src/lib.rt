@@ -1,7 +1,7 @@
 // assignment_solver.rs: the edges that a schedule blocks, constraint by constraint.
 #![tactic(auto)]
 
-ghost use Rattle.std.specs.Prelude.{◌≡◌, ◌<◌, length};
+ghost use Rattle.std.specs.Prelude.{◌<◌};
 ghost use Rattle.constraint.specs.Kind.{kind_number};
 ghost use Rattle.constraint.specs.Cases.{target_operand};
 ghost use Rattle.blocks.specs.BlocksLaws.{beside_for, Blocked, Blocks, Blockable, Unfilled};
@@ -12,7 +12,7 @@ use input_data::Day;
 
 // The choices beside choice x in its slot are blocked for a chooser. x has a slot.
 fn block_beside(blocks: &mut [bool; 2048], entries: &[u8; 32], chooser: usize, x: usize)
-    requires { (chooser < 64) × (x < 32) × (length blocks.old ≡ 2048) }
+    requires { (chooser < 64) × (x < 32) }
     ensures { Blocked (beside_for entries.now chooser x) blocks.old blocks.new }
 {
     let slot = entries[x];
@@ -24,7 +24,7 @@ fn block_beside(blocks: &mut [bool; 2048], entries: &[u8; 32], chooser: usize, x
 
 // What one constraint blocks. Only two kinds block anything.
 fn block_constraint(blocks: &mut [bool; 2048], entries: &[u8; 32], c: Constraint)
-    requires { Blockable (kind_number c.kind) c.left (target_operand c.right) blocks.old }
+    requires { Blockable (kind_number c.kind) c.left (target_operand c.right) }
     ensures { Blocked (blocks_by c entries.now) blocks.old blocks.new }
 {
     let x = c.right.operand();

@@ -226,9 +226,9 @@ impl ConstraintTarget {
     {
         match self {
             ConstraintTarget::None => 0,
-            ConstraintTarget::Slot(n) => n,
-            ConstraintTarget::Choice(n) => n,
-            ConstraintTarget::Chooser(n) => n,
+            ConstraintTarget::Slot(n)
+            | ConstraintTarget::Choice(n)
+            | ConstraintTarget::Chooser(n) => n,
             ConstraintTarget::Limit(n) => n as usize,
         }
     }

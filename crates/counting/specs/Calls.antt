@@ -14,3 +14,8 @@ module _ {X A : Type 0} where
   -- whatever a call at x gives is f x
   abbrev pub AgreesAlways : (X → A → Type 0) → (X → A) → Type 0
   AgreesAlways gives f = (x : X) (a : A) → gives x a → a ≡ f x
+
+module _ {A T : Type 0} where
+  -- whatever a call at x and y gives is `by` of them
+  abbrev pub AgreesTwo : (A → T → A → Type 0) → (A → T → A) → Type 0
+  AgreesTwo gives by = (x : A) (y : T) (z : A) → gives x y z → z ≡ by x y

@@ -31,7 +31,7 @@ mag_sub a zero n h k = rw add-zero h
 mag_sub a (suc b) n h k = mag_cases a (suc b) n (ltb a (suc b)) refl h k
 
 module _ (w : Width) (a b : ℕ) (ha : a < 2 ^ hbits w) (hb : b < 2 ^ hbits w) where
-  sub_eq : to_z w a -ℤ to_z w b ≡ pos a -ℤ pos b
+  pub sub_eq : to_z w a -ℤ to_z w b ≡ pos a -ℤ pos b
   sub_eq = rw (to_z_pos w ha, to_z_pos w hb)
 
   small : SFits w (pos a -ℤ pos b)

@@ -2,7 +2,8 @@
 use Rattle.std.specs.Prelude.{ℕ, zero, suc, ◌+◌, ◌<◌, ◌≤◌, min, ◌≡◌, refl, Bool, true, false, ◌&&◌, ◌||◌, ◌≢◌, eqb, ltb}
 use Rattle.std.proofs.Common.{sym, ap, ◌∙◌, arith, eqb-true, eq-eqb, ne_eqb, ltb-true, ltb-false, lt-ltb}
 use Rattle.std.proofs.lemmas.Bool.{eqb-false}
-use Rattle.counting.specs.Fold.{fault_below, some_below, fold_to, all_to, any_to}
+use mir.Val.{bool_byte}
+use Rattle.counting.specs.Fold.{gate, count_to, fault_below, some_below, fold_to, all_to, any_to}
 use Rattle.counting.specs.FoldLaws.{fold_suc, fold_more, fold_ext}
 
 -- a call gave r, which its contract says is a, and a test found it to be v
@@ -88,8 +89,17 @@ each_below most n f h = each_none most (fault_below n f) (λ k l. lt_cases k n (
 pub any_more : (i : ℕ) (f : ℕ → Bool) {bad t : Bool} → bad ≡ any_to i f → t ≡ f i → (bad || t) ≡ any_to (i + 1) f
 any_more i f p q = rw (fold_more ◌||◌ false i f, p, q)
 
-pub all_more : (i : ℕ) (f : ℕ → Bool) {met t : Bool} → met ≡ all_to i f → t ≡ f i → (met && t) ≡ all_to (i + 1) f
-all_more i f p q = rw (fold_more ◌&&◌ true i f, p, q)
+-- a truth value counts as its byte
+pub byte_most : (t : Bool) → bool_byte t ≤ 1
+byte_most true = omega arith
+byte_most false = omega arith
+
+byte_gate : (t : Bool) → bool_byte t ≡ gate t 1
+byte_gate true = refl
+byte_gate false = refl
+
+pub count_more : (i : ℕ) (f : ℕ → Bool) {n : ℕ} {t : Bool} → n ≡ count_to i f → t ≡ f i → n + bool_byte t ≡ count_to (i + 1) f
+count_more i f {t = t} p q = rw (fold_more ◌+◌ 0 i (λ k. gate (f k) 1), ← p, ← q, byte_gate t)
 
 -- where the array has room for them, all are looked at
 pub below_any : (most n : ℕ) (f : ℕ → Bool) → n ≤ most → some_below most n f ≡ any_to n f

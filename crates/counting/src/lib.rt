@@ -1,57 +1,50 @@
-// What every crate counts with: tests of the numbers below a bound, and tables of their values. Signed
-// leaves are here too, since the rest of the code counts in unsigned numbers.
+// What every crate counts with: tests of the numbers below a bound, and tables of their values.
 #![tactic(auto)]
 
-ghost use Rattle.std.specs.Prelude.{◌≡◌, ◌<◌, ◌≤◌, ltb, length, get_or, ℕ, Bool, min, pos, neg_ℤ, ◌-ℤ◌};
-ghost use Rattle.counting.specs.Calls.{TakesBelow, AgreesBelow};
-ghost use Rattle.counting.specs.Fold.{gate, any_to, all_to, some_below, table_to};
-ghost use Rattle.counting.specs.Ints.{eq_z};
+ghost use Rattle.std.specs.Prelude.{◌≡◌, ◌<◌, ◌≤◌, ltb, length, get_or, ℕ, Bool, min};
+ghost use Rattle.counting.specs.Calls.{TakesBelow, AgreesBelow, AgreesTwo};
+ghost use Rattle.counting.specs.Fold.{gate, fold_to, any_to, all_to, count_to, some_below, table_to};
 
-// -x.
-pub fn minus(x: u32) -> i32
-    requires { x < 2147483648 }
-    ensures { result ≡ neg_ℤ (pos x) }
+// What f gives at 0, 1, .., n - 1, taken together one after the other. No early exit, so that the walk is quick.
+pub fn fold_below<A, T, F: Fn(usize) -> T, G: Fn(A, T) -> A>(n: usize, start: A, f: F, op: G) -> A
+    requires takes { TakesBelow (F.pre f) n }
+    requires pairs { (x : A) (y : T) → G.pre op x y }
+    ensures { (of : ℕ → T) (by : A → T → A) → AgreesBelow (F.post f) n of → AgreesTwo (G.post op) by → result ≡ fold_to by start n of }
 {
-    -(x as i32)
+    let mut all = start;
+    for k in 0..n {
+        all = op(all, f(k));
+    }
+    all
 }
 
-// a - b, as signed numbers.
-pub fn difference(a: u32, b: u32) -> i32
-    requires { (a < 2147483648) × (b < 2147483648) }
-    ensures { result ≡ pos a -ℤ pos b }
-{
-    a as i32 - b as i32
-}
-
-// Whether two signed numbers are equal, any two.
-pub fn same(a: i32, b: i32) -> bool
-    ensures { result ≡ eq_z a b }
-{
-    a == b
-}
-
-// Whether one of 0, 1, .., n - 1 passes a test. No early exit, so that the walk is quick.
+// Whether one of 0, 1, .., n - 1 passes a test.
 pub fn any_below<F: Fn(usize) -> bool>(n: usize, test: F) -> bool
     requires { TakesBelow (F.pre test) n }
     ensures { (f : ℕ → Bool) → AgreesBelow (F.post test) n f → result ≡ any_to n f }
 {
-    let mut any = false;
-    for k in 0..n {
-        any |= test(k);
-    }
-    any
+    fold_below(n, false, test, |any, passes| any | passes)
 }
 
-// Whether all of them pass it. No early exit either.
+// Whether all of them pass it.
 pub fn all_below<F: Fn(usize) -> bool>(n: usize, test: F) -> bool
     requires { TakesBelow (F.pre test) n }
     ensures { (f : ℕ → Bool) → AgreesBelow (F.post test) n f → result ≡ all_to n f }
 {
-    let mut all = true;
+    fold_below(n, true, test, |all, passes| all & passes)
+}
+
+// How many of them pass it. The count is a byte, so that a walk over bytes is quick.
+pub fn count_below<F: Fn(usize) -> bool>(n: usize, test: F) -> u8
+    requires { TakesBelow (F.pre test) n × (n < 256) }
+    ensures counts { (f : ℕ → Bool) → AgreesBelow (F.post test) n f → result ≡ count_to n f }
+    ensures few { result ≤ n }
+{
+    let mut count = 0;
     for k in 0..n {
-        all &= test(k);
+        count += u8::from(test(k));
     }
-    all
+    count
 }
 
 // Whether one of the first n places of an array of MOST passes a test.

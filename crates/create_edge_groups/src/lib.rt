@@ -3,39 +3,36 @@
 
 mod pairs;
 
-ghost use Rattle.std.specs.Prelude.{◌≡◌, ◌≤◌};
+ghost use Rattle.std.specs.Prelude.{◌≡◌};
 ghost use Rattle.slot_lists.specs.Parts.{list_length, list_entry};
 ghost use Rattle.model_buffers.specs.Stored.{groups_with};
 ghost use Rattle.mip_flow.specs.IndexLaws.{number_at};
 ghost use Rattle.edge_groups.specs.Grouping.{Dependent, Grouping};
 ghost use Rattle.edge_groups.specs.Groups.{Room};
+ghost use Rattle.edge_groups.specs.Input.{number_of, StoresNamed};
 ghost use Rattle.edge_groups.specs.Lent.{Stores};
 ghost use Rattle.edge_groups.specs.Names.{dependent_names, names};
 
 use dependent_groups::put_group;
+use edge_groups::GroupInput;
 use input_data::{Day, Sizes};
 use mip_flow::EdgeIndex;
 use model_buffers::Groups;
-use pairs::put_constraints;
+use pairs::{ListedInput, put_constraints};
 use slot_lists::SlotLists;
 
 // All dependent groups, one after the other.
 #[tactic(auto, using(edge_groups::specs::Bounds::start_none, edge_groups::specs::Stored::groups_laws), unfolding(edge_groups::specs::Names::dependent_names))]
-fn put_dependent(
-    sizes: Sizes,
-    schedule: &[u8; 32],
-    day: &Day,
-    index: &EdgeIndex,
-    groups: &mut Groups,
-)
-    requires { (sizes.choosers ≤ 64) × Dependent day.now × Room groups.old 2048 1024 }
-    ensures { Stores index.now.count (dependent_names (number_at index.now.numbers) sizes schedule.now day.now.groups day.now.lengths day.now.members) groups }
+fn put_dependent(input: &GroupInput, day: &Day, groups: &mut Groups)
+    requires { Dependent day.now × Room groups.old 2048 1024 }
+    ensures { StoresNamed input.now (dependent_names (number_of input.now) input.now.sizes input.now.schedule.now
+        day.now.groups day.now.lengths day.now.members) groups }
 {
     let members: [u32; 32] = counting::table(0, |i| day.member(i));
     let mut start = 0;
     for g in 0..day.groups() {
         let end = start + day.group_length(g) as usize;
-        put_group(sizes, index, schedule, &members[start..end], groups);
+        put_group(input, &members[start..end], groups);
         start = end;
     }
 }
@@ -56,6 +53,12 @@ pub fn put_groups(
         day.now.assignment day.now.groups day.now.lengths day.now.members) groups }
     ensures same { groups.new ≡ groups_with groups.old groups.new }
 {
-    put_constraints(sizes, index, lists, &day.assignment(), groups);
-    put_dependent(sizes, schedule, day, index, groups);
+    let group = GroupInput {
+        sizes,
+        schedule,
+        index,
+    };
+    let input = ListedInput { group, lists };
+    put_constraints(&input, &day.assignment(), groups);
+    put_dependent(&group, day, groups);
 }

@@ -34,7 +34,7 @@ decoded_row z l e = plan_row e.index.now.count e.values.now (number_at e.index.n
 unfoldable pub decoded_plan : Sizes → SlotLists → EdgeValues → List ℕ
 decoded_plan z l e = decoded e.index.now.count e.values.now (number_at e.index.now.numbers) (entry_at l.lens) (listed l.stride l.bytes.now) z
 
-pub record Decoding (z : Sizes) (l : SlotLists) (e : EdgeValues) (size : ℕ) : Type 0 where
+pub record Decoding (z : Sizes) (l : SlotLists) (e : EdgeValues) : Type 0 where
   pub choosers : z.choosers ≤ 64
   pub slots : z.slots ≤ 8
   -- each list is in its slot's part, which is in the buffer, and holds choices
@@ -42,7 +42,6 @@ pub record Decoding (z : Sizes) (l : SlotLists) (e : EdgeValues) (size : ℕ) : 
   pub part : (s : ℕ) → s < z.slots → l.stride * s + l.stride ≤ length l.bytes.now
   pub small : (s j : ℕ) → s < z.slots → j < entry_at l.lens s → listed l.stride l.bytes.now s j < 32
   pub edges : e.index.now.count ≤ length e.values.now
-  pub room : z.choosers * z.slots ≤ size
   -- every chooser has in every slot a listed choice whose edge has 1
   pub found : (c s : ℕ) → c < z.choosers → s < z.slots → first_to (entry_at l.lens s) (one_in e (listed l.stride l.bytes.now s) c) < entry_at l.lens s
 
@@ -72,7 +71,7 @@ search_on {len = len} {f = f} {j = j} h p e =
 pub search_end : {len : ℕ} {f : ℕ → Bool} {j : ℕ} → Searching len f j → f j ≡ true → j ≡ first_to len f
 search_end {len = len} {f = f} {j = j} p e = first_at len f j p.below p.fails e
 
-module _ {z : Sizes} {l : SlotLists} {e : EdgeValues} {size : ℕ} (h : Decoding z l e size) (c s : ℕ) (hc : c < z.choosers) (hs : s < z.slots) where
+module _ {z : Sizes} {l : SlotLists} {e : EdgeValues} (h : Decoding z l e) (c s : ℕ) (hc : c < z.choosers) (hs : s < z.slots) where
   abbrev len : ℕ
   len = entry_at l.lens s
 

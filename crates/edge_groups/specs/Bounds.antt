@@ -77,7 +77,7 @@ few_none : (u v : ℕ) → Few [] u v
 unfolding each
 few_none u v = record { named = zero-le; lists = zero-le }
 
-few_weaker : {ls : List (List ℕ)} {u v : ℕ} (u' v' : ℕ) → u ≤ u' → v ≤ v' → Few ls u v → Few ls u' v'
+pub few_weaker : {ls : List (List ℕ)} {u v : ℕ} (u' v' : ℕ) → u ≤ u' → v ≤ v' → Few ls u v → Few ls u' v'
 few_weaker u' v' h i p = record { named = omega (arith, p.named); lists = omega (arith, p.lists) }
 
 few_if : (t : Bool) {ls : List (List ℕ)} {u v : ℕ} → Few ls u v → Few (only_if t ls) u v
@@ -96,7 +96,7 @@ few_join (suc m) f g h p =
     }
 
 -- m parts of the same size
-few_most : (m u v : ℕ) (f : ℕ → List (List ℕ)) → ((i : ℕ) → Few (f i) u v) → Few (join_to m f) (m * u) (m * v)
+pub few_most : (m u v : ℕ) (f : ℕ → List (List ℕ)) → ((i : ℕ) → Few (f i) u v) → Few (join_to m f) (m * u) (m * v)
 few_most m u v f p =
     let q = few_join m f (λ i. u) (λ i. v) p in
     few_weaker (m * u) (m * v) (omega (arith, sum_const m u)) (omega (arith, sum_const m v)) q

@@ -1,10 +1,9 @@
 -- What storing groups asks of its input. Definitions and their laws.
-use Rattle.std.specs.Prelude.{ℕ, ◌+◌, ◌-◌, ◌<◌, ◌≤◌, ◌≡◌, Bool, true, not, ◌≢◌, eqb, ltb, length, take, drop}
+use Rattle.std.specs.Prelude.{ℕ, zero, suc, ◌+◌, ◌-◌, ◌<◌, ◌≤◌, ◌≡◌, refl, not, get_or, ◌≢◌, eqb, length, take, drop}
 use Rattle.std.proofs.Common.{sym, ◌∙◌, arith, zero-add, eq-eqb, ne_eqb}
 use Rattle.std.proofs.Math.Path.{ap}
-use Rattle.std.proofs.Math.Bool.{and-true}
-use mathlib.Core.List.{List, [], ◌∷◌, ◌++◌, append-nil}
-use Rattle.counting.specs.Fold.{only_if, join_to, table_to}
+use mathlib.Core.List.{List, [], ◌∷◌, ◌++◌}
+use Rattle.counting.specs.Fold.{fold_to, only_if, join_to, table_to}
 use Rattle.counting.specs.FoldLaws.{fold_ext}
 use Rattle.counting.specs.Lists.{length_table, table_at}
 use Rattle.constraint.specs.Kind.{kind_number, kind_of}
@@ -21,7 +20,7 @@ use Rattle.slot_lists.specs.ListsLaws.{part_length, part_at}
 use Rattle.slot_lists.specs.Parts.{Listed}
 use Rattle.slot_lists.specs.declared.lists.SlotLists.{SlotLists}
 use Rattle.model_buffers.specs.declared.groups.Groups.{Groups}
-use Rattle.edge_groups.specs.Groups.{each, all_there, if_there, present, Room}
+use Rattle.edge_groups.specs.Groups.{Room}
 use Rattle.edge_groups.specs.Bounds.{start_within}
 use Rattle.edge_groups.specs.Names.{same_choices_names, constraint_names, member_name, member_name_at, chooser_names, chooser_names_at, chooser_names_of, group_names, group_names_at, group_names_of, member_start}
 
@@ -64,23 +63,15 @@ module _ (edge : ℕ → ℕ → ℕ) (z : Sizes) (count : ℕ → ℕ) (list : 
   unfolding constraint_names
   names_same e q = rw (e, q)
 
--- a member names an edge if it is scheduled
-module _ (n : ℕ) (edge : ℕ → ℕ → ℕ) (sch : List ℕ) (c k : ℕ) where
-  pub there_none : entry_at sch k ≡ 0 → true ≡ all_there n (member_name edge sch c k)
-  unfolding all_there
-  there_none h = rw (eq-eqb (entry_at sch k) 0 h)
+-- two choosers, one by one
+pub pair_small : (a b i : ℕ) → i < 2 → a < 64 → b < 64 → get_or (a ∷ b ∷ []) i 0 < 64
+pair_small a b zero h p q = p
+pair_small a b (suc zero) h p q = q
+pair_small a b (suc (suc i)) h p q = absurd (omega arith)
 
-  pub there_one : {t : Bool} → entry_at sch k ≢ 0 → t ≡ ltb (edge c k) n → t ≡ all_there n (member_name edge sch c k)
-  unfolding all_there
-  there_one h e = rw (ne_eqb (entry_at sch k) 0 h, and-true) e
-
-  pub present_none : entry_at sch k ≡ 0 → present n (member_name edge sch c k) ≡ []
-  unfolding each
-  present_none h = rw (eq-eqb (entry_at sch k) 0 h)
-
-  pub present_one : entry_at sch k ≢ 0 → present n (member_name edge sch c k) ≡ if_there n (edge c k)
-  unfolding each
-  present_one h = rw (ne_eqb (entry_at sch k) 0 h, append-nil)
+pub pair_table : (edge : ℕ → ℕ → ℕ) (a b k : ℕ) → table_to 2 (λ i. edge (get_or (a ∷ b ∷ []) i 0) k) ≡ edge a k ∷ edge b k ∷ []
+unfolding fold_to
+pair_table edge a b k = refl
 
 -- a dependent group names edges if its length is not 1
 module _ (edge : ℕ → ℕ → ℕ) (z : Sizes) (sch members : List ℕ) (start len : ℕ) where

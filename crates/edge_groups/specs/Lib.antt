@@ -4,5 +4,7 @@ pub mod Groups
 pub mod Lent
 pub mod Stored
 pub mod Bounds
+pub mod Together
+pub mod Input
 pub mod Grouping
 pub mod Laws

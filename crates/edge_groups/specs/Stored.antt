@@ -1,6 +1,6 @@
 -- Laws of stored lists of named edges: one after the other, and one list edge by edge. Assumes nothing.
 use Rattle.std.specs.Prelude.{ℕ, zero, suc, ◌+◌, ◌≡◌, Bool, true, false, ◌&&◌, ltb}
-use Rattle.std.proofs.Common.{zero-add, add-zero, add_assoc, arith, ◌∙◌, length-append}
+use Rattle.std.proofs.Common.{add-zero, add_assoc, arith, ◌∙◌, length-append}
 use Rattle.std.proofs.Math.Path.{refl, sym, ap}
 use mathlib.Core.List.{List, [], ◌∷◌, ◌++◌, append_assoc, append-nil}
 use Rattle.std.proofs.Math.ListN.{length}
@@ -10,18 +10,13 @@ use Rattle.counting.specs.Tests.{never}
 use Rattle.counting.specs.Written.{written}
 use Rattle.counting.specs.WrittenLaws.{written_append}
 use Rattle.model_buffers.specs.Stored.{filled, group_closed, groups_with}
-use Rattle.model_buffers.specs.StoredLaws.{fill_laws}
 use Rattle.model_buffers.specs.declared.groups.Part.TheVariants.{Entries, Blocked}
 use Rattle.model_buffers.specs.declared.groups.Groups.{Groups}
-use Rattle.edge_groups.specs.Groups.{each, all_there, if_there, present, flat, ends_from, store_groups}
+use Rattle.edge_groups.specs.Groups.{each, all_there, present, flat, ends_from, store_groups}
 
 -- ---- what is made of each element
 
 module _ {A B : Type 0} (f : A → List B) where
-  pub each_none : each f [] ≡ []
-  unfolding each
-  each_none = refl
-
   pub each_append : (xs ys : List A) → each f (xs ++ ys) ≡ each f xs ++ each f ys
   unfolding each
   each_append [] ys = refl
@@ -50,9 +45,6 @@ groups_append n g ls ms = simp (each_append, ends_append, ends_length, written_a
 -- how one run of stores follows another
 pub ruleset groups_laws = (fold_none, fold_more, groups_none, groups_append)
 
--- how those that are there are stored, run by run
-pub ruleset present_laws = (zero-add, each_none, each_append, fill_laws)
-
 -- they are stored in the same buffers
 pub groups_same : (n : ℕ) (g : Groups) (ls : List (List ℕ)) {g' : Groups} → g' ≡ store_groups n g ls → g' ≡ groups_with g g'
 unfolding store_groups
@@ -62,11 +54,6 @@ pub groups_same_then : (n : ℕ) (g g' : Groups) (ls ms : List (List ℕ)) {g'' 
 groups_same_then n g g' ls ms p q = groups_same n g (ls ++ ms) (q ∙ rw p (sym (groups_append n g ls ms)))
 
 -- ---- one list, edge by edge
-
--- two edges
-pub two_present : (n x y : ℕ) → present n (x ∷ y ∷ []) ≡ if_there n x ++ if_there n y
-unfolding each
-two_present n x y = rw append-nil
 
 pub there_append : (n : ℕ) (xs ys : List ℕ) → all_there n (xs ++ ys) ≡ (all_there n xs && all_there n ys)
 unfolding all_there

@@ -2,55 +2,64 @@
 // there; otherwise those that are there are blocked.
 #![tactic(auto)]
 
-ghost use Rattle.std.specs.Prelude.{◌≡◌, [], ◌∷◌, ◌+◌, ◌<◌, ◌≤◌, length};
+ghost use Rattle.std.specs.Prelude.{◌≡◌, ℕ, [], ◌∷◌, ◌+◌, ◌<◌, ◌≤◌, IfSome};
+ghost use Rattle.counting.specs.Calls.{TakesBelow, AgreesBelow};
+ghost use Rattle.counting.specs.Fold.{table_to};
 ghost use Rattle.model_buffers.specs.Stored.{part_used, part_size};
-ghost use Rattle.mip_flow.specs.IndexLaws.{number_at};
-ghost use Rattle.edge_groups.specs.Groups.{all_there, if_there, present, Room};
+ghost use Rattle.edge_groups.specs.Groups.{Room};
 ghost use Rattle.edge_groups.specs.Lent.{Stores, StoresEdges};
+ghost use Rattle.edge_groups.specs.Together.{one_there, edge_list, GivesSmall, PutsThose};
 
+use input_data::Sizes;
 use mip_flow::EdgeIndex;
 use model_buffers::{Groups, Part};
 
-// Stores the edge of chooser c to choice k if it is there.
-#[tactic(auto, using(mip_flow::specs::IndexLaws::not_there, model_buffers::specs::StoredLaws::filled_none))]
-pub fn put_edge(index: &EdgeIndex, c: usize, k: usize, groups: &mut Groups, part: Part)
-    requires { (c < 64) × (k < 32) × (part_used part groups.old < part_size part groups.old) }
-    ensures { StoresEdges part (if_there index.now.count (number_at index.now.numbers c k)) groups }
+// What decides which edges are named together, and which of them are there.
+#[derive(Clone, Copy)]
+pub struct GroupInput<'a> {
+    pub sizes: Sizes,
+    pub schedule: &'a [u8; 32],
+    pub index: &'a EdgeIndex,
+    ghost few: { sizes.choosers ≤ 64 },
+}
+
+// Stores an edge if it is there.
+#[tactic(auto, using(model_buffers::specs::StoredLaws::filled_none))]
+fn put_edge(edge: Option<usize>, groups: &mut Groups, part: Part)
+    requires { IfSome edge (λ e. e < 65536) × (part_used part groups.old < part_size part groups.old) }
+    ensures { StoresEdges part (edge_list edge) groups }
 {
-    if let Some(e) = index.edge(c, k) {
+    if let Some(e) = edge {
         groups.push(part, e);
     }
 }
 
-// Whether the edges of choosers a and b to choice k are there.
-#[tactic(auto, using(mip_flow::specs::IndexLaws::is_there), unfolding(crate::specs::Groups::all_there))]
-fn are_there(index: &EdgeIndex, a: usize, b: usize, k: usize) -> bool
-    requires { (a < 64) × (b < 64) × (k < 32) }
-    ensures { result ≡ all_there index.now.count (number_at index.now.numbers a k ∷ number_at index.now.numbers b k ∷ []) }
+// Stores those of edge(0), edge(1), .., edge(n - 1) that are there.
+fn put_present<F: Fn(usize) -> Option<usize>>(n: usize, edge: F, groups: &mut Groups, part: Part)
+    requires { TakesBelow (F.pre edge) n × GivesSmall (F.post edge) n × (part_used part groups.old + n ≤ part_size part groups.old) }
+    ensures { PutsThose (F.post edge) n part groups.old n groups.new }
 {
-    index.edge(a, k).is_some() & index.edge(b, k).is_some()
+    for i in 0..n {
+        put_edge(edge(i), groups, part);
+    }
 }
 
-// Stores those of the two that are there.
-#[tactic(auto, using(model_buffers::specs::StoredLaws::filled_append, crate::specs::Stored::two_present))]
-fn put_two(index: &EdgeIndex, a: usize, b: usize, k: usize, groups: &mut Groups, part: Part)
-    requires { (a < 64) × (b < 64) × (k < 32) × (part_used part groups.old + 2 ≤ part_size part groups.old) }
-    ensures { StoresEdges part (present index.now.count (number_at index.now.numbers a k ∷ number_at index.now.numbers b k ∷ [])) groups }
+// The edges edge(0), edge(1), .., edge(n - 1) form a group if all are there; otherwise those that are there
+// are blocked.
+pub fn group_or_block<F: Fn(usize) -> Option<usize>>(n: usize, edge: F, groups: &mut Groups)
+    requires { TakesBelow (F.pre edge) n × GivesSmall (F.post edge) n × Room groups.old n 1 }
+    ensures { (count : ℕ) (name : ℕ → ℕ) → AgreesBelow (F.post edge) n (one_there count name) → Stores count (table_to n name ∷ []) groups }
 {
-    put_edge(index, a, k, groups, part);
-    put_edge(index, b, k, groups, part);
-}
-
-// The two form a group if both are there; otherwise the one that is there is blocked.
-#[tactic(auto, using(crate::specs::Stored::stored_group, crate::specs::Stored::stored_blocked))]
-pub fn put_pair(index: &EdgeIndex, a: usize, b: usize, k: usize, groups: &mut Groups)
-    requires { (a < 64) × (b < 64) × (k < 32) × Room groups.old 2 1 }
-    ensures { Stores index.now.count ((number_at index.now.numbers a k ∷ number_at index.now.numbers b k ∷ []) ∷ []) groups }
-{
-    if are_there(index, a, b, k) {
-        put_two(index, a, b, k, groups, Part::Entries);
+    let all = counting::all_below(
+        n,
+        |i|
+            requires { F.pre edge i }
+        { edge(i).is_some() },
+    );
+    if all {
+        put_present(n, edge, groups, Part::Entries);
         groups.close();
     } else {
-        put_two(index, a, b, k, groups, Part::Blocked);
+        put_present(n, edge, groups, Part::Blocked);
     }
 }

@@ -21,12 +21,6 @@ pub record Walking (edges : ℕ) (from to : List ℕ) (values : List ℤ) : Type
   pub to_node : (e : ℕ) → e < edges → get_or to e 0 < 552
   pub light : (e : ℕ) → e < edges → (pos 0 ≤ℤ value_at values e) × (value_at values e ≤ℤ pos 1000)
 
--- 17 asks: .. and the nodes have a supply
-pub record Balancing (nodes edges : ℕ) (from to : List ℕ) (supplies values : List ℤ) : Type 0 where
-  pub walking : Walking edges from to values
-  pub few_nodes : nodes ≤ 552
-  pub supplies_long : nodes ≤ length supplies
-
 -- x is what flows out of the node by the first m edges, less what flows in by the first n
 pub record NetFlow (m n : ℕ) (from to : List ℕ) (vs : List ℤ) (node : ℕ) (x : ℤ) : Type 0 where
   pub is : x ≡ (flow m from vs node -ℤ flow n to vs node)

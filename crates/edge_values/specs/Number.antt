@@ -6,7 +6,7 @@ use Rattle.model_buffers.specs.Buffers.{Buffers}
 use Rattle.model_buffers.specs.declared.Counts.{Counts}
 use Rattle.edge_values.specs.Values.{some_outside, some_used, some_unbalanced}
 use Rattle.edge_values.specs.Checks.{Bounded, Naming, Grouped, uneven_part, inside_each}
-use Rattle.edge_values.specs.Balance.{Balancing}
+use Rattle.edge_values.specs.Balance.{Walking}
 
 -- the first of 14 to 17 that applies, as the buffers say the model
 unfoldable pub buffer_number : ℕ → Counts → Buffers → List ℤ → ℕ
@@ -29,19 +29,14 @@ pub record Checkable (nodes : ℕ) (k : Counts) (b : Buffers) (size : ℕ) : Typ
   pub from_node : (e : ℕ) → e < k.edges → get_or b.from e 0 < 552
   pub to_node : (e : ℕ) → e < k.edges → get_or b.to e 0 < 552
 
--- 17 can be looked at once 14 passed
-pub balancing : {nodes : ℕ} {k : Counts} {b : Buffers} {vs : List ℤ} → Checkable nodes k b (length vs) → some_outside k.edges b.max vs ≡ false
-    → Balancing nodes k.edges b.from b.to b.supplies vs
-balancing {k = k} {b = b} {vs = vs} h e = record {
-  walking = record {
-    few = h.few_edges;
-    from_long = h.from_long;
-    to_long = h.to_long;
-    values_long = h.bounded.values_long;
-    from_node = h.from_node;
-    to_node = h.to_node;
-    light = λ i l. inside_each k.edges b.max vs e h.bounded i l;
-  };
-  few_nodes = h.few_nodes;
-  supplies_long = h.supplies_long;
+-- what the walk of 17 asks, once 14 passed
+pub walking : {nodes : ℕ} {k : Counts} {b : Buffers} {vs : List ℤ} → Checkable nodes k b (length vs) → some_outside k.edges b.max vs ≡ false → Walking k.edges b.from b.to vs
+walking {k = k} {b = b} {vs = vs} h e = record {
+  few = h.few_edges;
+  from_long = h.from_long;
+  to_long = h.to_long;
+  values_long = h.bounded.values_long;
+  from_node = h.from_node;
+  to_node = h.to_node;
+  light = λ i l. inside_each k.edges b.max vs e h.bounded i l;
 }

@@ -5,8 +5,7 @@ ghost use Rattle.model_buffers.specs.Lent.{held};
 ghost use Rattle.mip_flow_static_data.specs.Nodes.{node_count};
 ghost use Rattle.edge_values.specs.Number.{Checkable, buffer_number};
 
-use crate::balance::some_unbalanced;
-use crate::checks::{some_outside, some_uneven, some_used};
+use crate::checks::ProposedValues;
 use input_data::Sizes;
 use model_buffers::{Counts, LentBuffers};
 use refusal::Refusal;
@@ -22,17 +21,22 @@ pub fn check_edge_values(
     requires { Checkable (node_count sizes) counts (held model.now) (length values.now) }
     ensures { outcome result ≡ buffer_number (node_count sizes) counts (held model.now) values.now }
 {
-    if some_outside(counts.edges, model, values) {
+    let proposed = ProposedValues {
+        nodes: sizes.choosers * sizes.slots + sizes.choices + sizes.slots,
+        counts,
+        model: &*model,
+        values: &*values,
+    };
+    if proposed.some_outside() {
         return Err(Refusal::Values);
     }
-    if some_used(counts.blocked, model, values) {
+    if proposed.some_used() {
         return Err(Refusal::Blocked);
     }
-    if some_uneven(counts.groups, model, values) {
+    if proposed.some_uneven() {
         return Err(Refusal::Uneven);
     }
-    let nodes = sizes.choosers * sizes.slots + sizes.choices + sizes.slots;
-    if some_unbalanced(nodes, counts.edges, model, values) {
+    if proposed.some_unbalanced() {
         return Err(Refusal::Unbalanced);
     }
     Ok(())

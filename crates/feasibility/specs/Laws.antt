@@ -10,7 +10,7 @@ use Rattle.satisfies_constraints.specs.Laws.{ScheduleRead, PlanRead}
 use Rattle.scheduling.specs.Schedule.{entry_at}
 use Rattle.seat_counts.specs.Laws.{Seated, Choices, Parts}
 use Rattle.seat_counts.specs.Seats.{filled_at, all_filled, part_count}
-use Rattle.slot_lists.specs.SumsLaws.{added, Adds, Weighs, Sums, Unweighed, unweighed_none, sums_next, sums_most}
+use Rattle.slot_lists.specs.SumsLaws.{Weighs, Sums}
 use Rattle.feasibility.specs.Feasible.{seats_all, all_seated}
 
 abbrev pub sums_seat : ℕ → ℕ → List ℕ → List ℕ → Bool
@@ -42,19 +42,6 @@ pub record Parted (d : InputData) (size : ℕ) : Type 0 where
 pub record SizeSums (d : InputData) (sch : List ℕ) (n : ℕ) (a c : List ℕ) : Type 0 where
   pub mins : Sums (entry_at d.mins) (entry_at sch) n a
   pub maxs : Sums (entry_at d.maxs) (entry_at sch) n c
-
-pub sizes_none : (d : InputData) (sch : List ℕ) → SizeSums d sch 0 (replicate 8 0) (replicate 8 0)
-sizes_none d sch =
-    let zeros : Unweighed (replicate 8 0) (replicate 8 0) = record { lens = refl; covered = refl } in
-    record { mins = (unweighed_none d.mins sch zeros).covered; maxs = (unweighed_none d.maxs sch zeros).covered }
-
--- one choice more, and that its weights fit
-module _ {sch w : List ℕ} {n i : ℕ} {a : List ℕ} (h : Weighs sch w n) (l : i < n) (p : Sums (entry_at w) (entry_at sch) i a) where
-  pub adds_size : Adds (entry_at sch i) (entry_at w i) a
-  adds_size = record { small = h.small i l; fits = λ d. omega (arith, h.count, h.light i l, sums_most p 1000 (λ j b. h.light j (omega arith)) (entry_at sch i) (h.small i l) d) }
-
-  pub size_next : Sums (entry_at w) (entry_at sch) (i + 1) (added (entry_at sch i) (entry_at w i) a)
-  size_next = sums_next p (h.small i l)
 
 -- sums that an array holds
 pub seated_sums : (d : InputData) (sch : List ℕ) {mins maxs : List ℕ} → d.slots ≤ 8 → Sums (entry_at d.mins) (entry_at sch) d.choices mins → Sums (entry_at d.maxs) (entry_at sch) d.choices maxs → sums_seat d.choosers d.slots mins maxs ≡ all_seated d sch

@@ -27,8 +27,7 @@ pub fn check_parts(day: &Day, schedule: &[u8; 32], plan: &[u8]) -> Result<(), Re
     ensures { outcome result ≡ parts_number true true day.now (schedule_of schedule.now) plan.now }
 {
     check_schedule(day, schedule)?;
-    let seats = day.choosers() * day.slots();
-    if assignment::bad_plan_for(day.choices(), seats, schedule, plan) {
+    if assignment::bad_plan_for(day, schedule, plan) {
         return Err(Refusal::Plan);
     }
     Ok(())

@@ -7,5 +7,5 @@ mod plan;
 mod schedule;
 
 pub use checks::{check_parts, check_schedule};
-pub use plan::plan_holds;
+pub use plan::JudgedPlan;
 pub use schedule::schedule_holds;

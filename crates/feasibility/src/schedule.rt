@@ -14,17 +14,12 @@ struct SlotSizes {
 
 impl SlotSizes {
     // Both in one walk over the choices.
-    #[tactic(auto, using(crate::specs::Laws::adds_size, crate::specs::Laws::size_next))]
     fn of(day: &Day, entries: &[u8; 32]) -> SlotSizes
         requires { Weighable day.now entries.now day.now.choices }
         ensures { SizeSums day.now entries.now day.now.choices result.mins result.maxs }
     {
-        let mut mins = [0; 8];
-        let mut maxs = [0; 8];
-        for i in 0..day.choices() {
-            slot_lists::add(&mut mins, entries[i], day.min(i));
-            slot_lists::add(&mut maxs, entries[i], day.max(i));
-        }
+        let n = day.choices();
+        let (mins, maxs) = slot_lists::sums(entries, n, |k| day.min(k), |k| day.max(k));
         SlotSizes { mins, maxs }
     }
 

@@ -2,11 +2,12 @@
 ghost use Rattle.std.specs.Prelude.{◌<◌};
 ghost use Rattle.mip_flow.specs.Edges.{seat_at, place_at};
 ghost use Rattle.mip_flow.specs.Lent.{StoresSeats, StoresChoices};
-ghost use Rattle.mip_flow.specs.Stored.{choices_of, Placed, Room, SeatRoom};
+ghost use Rattle.mip_flow.specs.Stored.{choices_of, Room, SeatRoom};
 
-use input_data::{Day, Sizes};
-use mip_flow::{EdgeIndex, Offer, choice_node, choice_width, chooser_node, slot_node};
+use crate::ScheduledChoices;
+use mip_flow::{EdgeIndex, Offer};
 use model_buffers::Edges;
+use scheduling::slot_in;
 
 // Stores the edge of chooser c in slot s to choice k, and its number in the index, if the preference is at
 // most the limit and no block applies.
@@ -25,23 +26,24 @@ pub fn put_seat(
     if !offer.has_edge(c, k) {
         return;
     }
-    let sizes = offer.sizes();
-    let from = chooser_node(sizes, c, s);
-    let to = choice_node(sizes, k);
+    let nodes = offer.nodes();
+    let from = nodes.chooser(c, s);
+    let to = nodes.choice(k);
     edges.push(from, to, 1, offer.cost(c, k));
     index.push(c, k);
 }
 
 // Stores the edge of choice k to its slot, if it has one. It costs nothing.
-pub fn put_choice(sizes: Sizes, schedule: &[u8; 32], day: &Day, k: usize, edges: &mut Edges)
-    requires { Placed (choices_of sizes schedule.now day.now.mins day.now.maxs) × (k < sizes.choices) × Room edges.old 1 }
-    ensures { StoresChoices (choices_of sizes schedule.now day.now.mins day.now.maxs) (place_at schedule.now k) edges }
+pub fn put_choice(choices: &ScheduledChoices, k: usize, edges: &mut Edges)
+    requires { (k < choices.now.nodes.sizes.choices) × Room edges.old 1 }
+    ensures { StoresChoices (choices_of choices.now.nodes.sizes choices.now.schedule.now choices.now.day.now.mins choices.now.day.now.maxs)
+        (place_at choices.now.schedule.now k) edges }
 {
-    let entry = schedule[k] as usize;
-    if entry == 0 {
+    let Some(slot) = slot_in(choices.schedule[k]) else {
         return;
-    }
-    let from = choice_node(sizes, k);
-    let to = slot_node(sizes, entry - 1);
-    edges.push(from, to, choice_width(day.min(k), day.max(k)), 0);
+    };
+    let from = choices.nodes.choice(k);
+    let to = choices.nodes.slot(slot);
+    let width = choices.day.max(k) - choices.day.min(k);
+    edges.push(from, to, width, 0);
 }

@@ -13,70 +13,77 @@ ghost use Rattle.mip_flow.specs.Lent.{StoresSeats, StoresChoices};
 ghost use Rattle.mip_flow.specs.Stored.{choices_of, Placed, Room, SeatRoom};
 
 use edges::{put_choice, put_seat};
-use input_data::{Day, Sizes};
-use mip_flow::{EdgeIndex, Offer};
+use input_data::Day;
+use mip_flow::{EdgeIndex, Nodes, Offer};
 use model_buffers::Edges;
 use slot_lists::SlotLists;
 
+// What decides which seats are open, and the slots' lists, which put them in their order.
+#[derive(Clone, Copy)]
+pub struct OpenSeats<'a> {
+    pub offer: &'a Offer<'a, 'a>,
+    pub lists: &'a SlotLists<'a>,
+    ghost listed: { Listed offer.now.sizes.slots offer.now.sizes.choices lists.now },
+}
+
+// A schedule of a day's choices, in whose slots each choice has room.
+#[derive(Clone, Copy)]
+pub struct ScheduledChoices<'a> {
+    pub nodes: Nodes,
+    pub schedule: &'a [u8; 32],
+    pub day: &'a Day<'a>,
+    ghost placed: { Placed (choices_of nodes.sizes schedule.now day.now.mins day.now.maxs) },
+}
+
 // Stores the edges of chooser c in slot s, by position of its list.
 #[tactic(auto, using(mip_flow::specs::Stored::seats_laws))]
-fn put_slot_seats(
-    offer: &Offer,
-    lists: &SlotLists,
-    c: usize,
-    s: usize,
-    edges: &mut Edges,
-    index: &mut EdgeIndex,
-)
-    requires { Listed offer.now.sizes.slots offer.now.sizes.choices lists.now × (c < offer.now.sizes.choosers) × (s < offer.now.sizes.slots)
-        × SeatRoom edges.old index.old (list_length lists.now s) }
-    ensures { StoresSeats offer.now (slot_seats_at offer.now (list_length lists.now) (list_entry lists.now) c s) edges index }
+fn put_slot_seats(seats: &OpenSeats, c: usize, s: usize, edges: &mut Edges, index: &mut EdgeIndex)
+    requires { (c < seats.now.offer.now.sizes.choosers) × (s < seats.now.offer.now.sizes.slots)
+        × SeatRoom edges.old index.old (list_length seats.now.lists.now s) }
+    ensures { StoresSeats seats.now.offer.now
+        (slot_seats_at seats.now.offer.now (list_length seats.now.lists.now) (list_entry seats.now.lists.now) c s) edges index }
 {
-    let list = lists.list(s);
+    let list = seats.lists.list(s);
     for k in list {
-        put_seat(offer, c, s, *k as usize, edges, index);
+        put_seat(seats.offer, c, s, *k as usize, edges, index);
     }
 }
 
 // Stores the edges of chooser c, slot by slot.
 #[tactic(auto, using(mip_flow::specs::Stored::seats_laws), unfolding(mip_flow::specs::Edges::chooser_seats))]
-fn put_chooser_seats(
-    offer: &Offer,
-    lists: &SlotLists,
-    c: usize,
-    edges: &mut Edges,
-    index: &mut EdgeIndex,
-)
-    requires { Listed offer.now.sizes.slots offer.now.sizes.choices lists.now × (c < offer.now.sizes.choosers)
-        × SeatRoom edges.old index.old (sum_to offer.now.sizes.slots (list_length lists.now)) }
-    ensures { StoresSeats offer.now (chooser_seats offer.now (list_length lists.now) (list_entry lists.now) c) edges index }
+fn put_chooser_seats(seats: &OpenSeats, c: usize, edges: &mut Edges, index: &mut EdgeIndex)
+    requires { (c < seats.now.offer.now.sizes.choosers)
+        × SeatRoom edges.old index.old (sum_to seats.now.offer.now.sizes.slots (list_length seats.now.lists.now)) }
+    ensures { StoresSeats seats.now.offer.now
+        (chooser_seats seats.now.offer.now (list_length seats.now.lists.now) (list_entry seats.now.lists.now) c) edges index }
 {
-    for s in 0..offer.slots() {
-        put_slot_seats(offer, lists, c, s, edges, index);
+    for s in 0..seats.offer.slots() {
+        put_slot_seats(seats, c, s, edges, index);
     }
 }
 
 // Stores the edges of all open seats, chooser by chooser.
 #[tactic(auto, using(mip_flow::specs::Stored::seats_laws), unfolding(mip_flow::specs::Edges::open_seats))]
-pub fn put_seats(offer: &Offer, lists: &SlotLists, edges: &mut Edges, index: &mut EdgeIndex)
-    requires { Listed offer.now.sizes.slots offer.now.sizes.choices lists.now
-        × SeatRoom edges.old index.old (offer.now.sizes.choosers * sum_to offer.now.sizes.slots (list_length lists.now)) }
-    ensures stores { StoresSeats offer.now (open_seats offer.now (list_length lists.now) (list_entry lists.now)) edges index }
+pub fn put_seats(seats: &OpenSeats, edges: &mut Edges, index: &mut EdgeIndex)
+    requires { SeatRoom edges.old index.old (seats.now.offer.now.sizes.choosers * sum_to seats.now.offer.now.sizes.slots (list_length seats.now.lists.now)) }
+    ensures stores { StoresSeats seats.now.offer.now
+        (open_seats seats.now.offer.now (list_length seats.now.lists.now) (list_entry seats.now.lists.now)) edges index }
     ensures same { edges.new ≡ edges_with edges.old edges.new }
 {
-    for c in 0..offer.choosers() {
-        put_chooser_seats(offer, lists, c, edges, index);
+    for c in 0..seats.offer.choosers() {
+        put_chooser_seats(seats, c, edges, index);
     }
 }
 
 // Stores the edges of the scheduled choices, upward.
 #[tactic(auto, using(mip_flow::specs::Stored::choices_laws), unfolding(mip_flow::specs::Edges::scheduled))]
-pub fn put_choices(sizes: Sizes, schedule: &[u8; 32], day: &Day, edges: &mut Edges)
-    requires { Placed (choices_of sizes schedule.now day.now.mins day.now.maxs) × Room edges.old sizes.choices }
-    ensures stores { StoresChoices (choices_of sizes schedule.now day.now.mins day.now.maxs) (scheduled sizes.choices schedule.now) edges }
+pub fn put_choices(choices: &ScheduledChoices, edges: &mut Edges)
+    requires { Room edges.old choices.now.nodes.sizes.choices }
+    ensures stores { StoresChoices (choices_of choices.now.nodes.sizes choices.now.schedule.now choices.now.day.now.mins choices.now.day.now.maxs)
+        (scheduled choices.now.nodes.sizes.choices choices.now.schedule.now) edges }
     ensures same { edges.new ≡ edges_with edges.old edges.new }
 {
-    for k in 0..sizes.choices {
-        put_choice(sizes, schedule, day, k, edges);
+    for k in 0..choices.nodes.sizes.choices {
+        put_choice(choices, k, edges);
     }
 }

@@ -237,9 +237,6 @@ module _ {l : Limits} {x : ModelInput} (g : Good l x) where
 
   pub placed : Placed (choicesIn (sizes_of l x.day) (entries_of x) x.day.mins x.day.maxs)
   placed = record {
-    choosers = choosers_most g.ready;
-    choices = choices_most g.ready;
-    slots = slots_most g.ready;
     fits = g.fits;
     order = g.ready.day.min_max;
     light = g.ready.day.max_most;

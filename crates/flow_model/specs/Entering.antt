@@ -22,7 +22,7 @@ use Rattle.model_buffers.specs.Lent.{held}
 use Rattle.model_buffers.specs.declared.LentInput.{LentInput}
 use Rattle.model_buffers.specs.declared.Lengths.{Lengths}
 use Rattle.model_buffers.specs.declared.buffers.LentBuffers.{LentBuffers}
-use Rattle.plans.specs.Model.{beside_model, number_with}
+use Rattle.plans.specs.Model.{beside_model}
 use Rattle.flow_model.specs.Building.{good_of, counts_are}
 use Rattle.flow_model.specs.Lent.{input_of, call_input, lent_number_with, Buildable, IsLists, ModelMade, EnteredLent}
 use Rattle.flow_model.specs.declared.FlowModel.{FlowModel}

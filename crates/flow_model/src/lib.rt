@@ -20,3 +20,11 @@ pub struct FlowModel<'a> {
     pub index: EdgeIndex,
     pub counts: Counts,
 }
+
+// How much of the buffers a model uses of which nothing is written yet.
+const NONE_USED: Counts = Counts {
+    edges: 0,
+    entries: 0,
+    groups: 0,
+    blocked: 0,
+};

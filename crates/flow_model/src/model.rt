@@ -1,16 +1,15 @@
 // The flow model of a state at a preference limit, in the lent buffers.
 ghost use Rattle.std.specs.Prelude.{◌≡◌};
-ghost use Rattle.input_data.specs.Lengths.{Within};
 ghost use Rattle.model_buffers.specs.Buffers.{lengths_of};
 ghost use Rattle.model_buffers.specs.Lent.{held};
 ghost use Rattle.plans.specs.Model.{sizes_of};
 ghost use Rattle.flow_model.specs.Lent.{input_of, call_input, IsLists, Buildable, ModelMade, EnteredLent};
 
-use crate::FlowModel;
 use crate::input::check_input;
+use crate::{FlowModel, NONE_USED};
 use create_edge_groups::put_groups;
-use flow_edges::{put_choices, put_seats};
-use input_data::{Day, Limits, Sizes};
+use flow_edges::{OpenSeats, ScheduledChoices, put_choices, put_seats};
+use input_data::{Day, FixedLimits, Limits, Sizes};
 use mip_flow::{EdgeIndex, Offer};
 use mip_flow_static_data::put_supplies;
 use model_buffers::{Counts, Edges, Groups, LentBuffers, LentInput};
@@ -31,7 +30,9 @@ fn sizes_of(limits: Limits, day: &Day) -> Sizes
     }
 }
 
-// Writes the model of tested input into the buffers.
+// Writes the model of tested input into the buffers. Inlined, as `enter` is: a model holds 4 KB of
+// numbers, which would be copied out of either.
+#[inline(always)]
 fn put_model<'a>(
     limits: Limits,
     day: &Day,
@@ -47,7 +48,12 @@ fn put_model<'a>(
     let sizes = sizes_of(limits, day);
     let schedule = kept(sizes.choices, &state.schedule.entries);
     let offer = Offer::of(sizes, input, &state.blocks);
-    let mut index = EdgeIndex::none();
+    let mut model = FlowModel {
+        sizes,
+        lists,
+        index: EdgeIndex::none(),
+        counts: NONE_USED,
+    };
     put_supplies(sizes, &schedule, day, &state.covered, buffers.supplies);
     let mut edges = Edges {
         from: buffers.from,
@@ -56,8 +62,17 @@ fn put_model<'a>(
         cost: buffers.cost,
         used: 0,
     };
-    put_seats(&offer, &lists, &mut edges, &mut index);
-    put_choices(sizes, &schedule, day, &mut edges);
+    let seats = OpenSeats {
+        offer: &offer,
+        lists: &lists,
+    };
+    put_seats(&seats, &mut edges, &mut model.index);
+    let choices = ScheduledChoices {
+        nodes: offer.nodes(),
+        schedule: &schedule,
+        day: &*day,
+    };
+    put_choices(&choices, &mut edges);
     let mut groups = Groups {
         entries: buffers.entries,
         ends: buffers.ends,
@@ -66,42 +81,37 @@ fn put_model<'a>(
         ends_used: 0,
         blocked_used: 0,
     };
-    put_groups(sizes, &schedule, day, &index, &lists, &mut groups);
-    let counts = Counts {
+    put_groups(sizes, &schedule, day, &model.index, &lists, &mut groups);
+    model.counts = Counts {
         edges: edges.used,
         entries: groups.entries_used,
         groups: groups.ends_used,
         blocked: groups.blocked_used,
     };
-    FlowModel {
-        sizes,
-        lists,
-        index,
-        counts,
-    }
+    model
 }
 
 // Tests the input of a call and writes its model, within limits. `short`: another buffer that the call is
 // lent is too short.
+#[inline(always)]
 pub fn enter<'a>(
-    limits: Limits,
+    fixed: FixedLimits,
     day: &[u8],
     state: &[u8],
     input: &LentInput<'a>,
     short: bool,
     buffers: &mut LentBuffers,
 ) -> Result<FlowModel<'a>, Refusal>
-    requires { Within limits }
-    ensures { EnteredLent limits day.now state.now (call_input day.now state.now input.now) short buffers.old buffers.new result }
+    ensures { EnteredLent fixed.limits day.now state.now (call_input day.now state.now input.now) short buffers.old buffers.new result }
 {
     let day = Day::read(day)?;
-    let sums = check_input(limits, &day, state, input, buffers.lengths(), short)?;
+    let sums = check_input(fixed, &day, state, input, buffers.lengths(), short)?;
     let lens = sums.lens;
     let lists = SlotLists {
         bytes: input.lists,
-        stride: limits.choices,
+        stride: fixed.limits.choices,
         lens,
     };
     let state = LentState::of(state).decoded();
-    Ok(put_model(limits, &day, &state, input, lists, buffers))
+    Ok(put_model(fixed.limits, &day, &state, input, lists, buffers))
 }

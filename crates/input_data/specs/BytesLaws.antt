@@ -1,7 +1,7 @@
 -- Definitions on the day that bytes stand for, read off the bytes. Assumes nothing.
-use Rattle.std.specs.Prelude.{ℕ, ◌+◌, ◌*◌, ◌<◌, ◌≡◌, List, Bool, get_or, length, ◌≢◌}
+use Rattle.std.specs.Prelude.{ℕ, ◌+◌, ◌*◌, ◌^◌, ◌<◌, ◌≤◌, ◌≡◌, List, Bool, get_or, length, ◌≢◌}
 use Rattle.std.proofs.Math.Path.{refl}
-use Rattle.std.proofs.Common.{arith, eqb-true, eq-eqb, ne_eqb}
+use Rattle.std.proofs.Common.{arith, eqb-true, eq-eqb, ne_eqb, mul-le-mul}
 use Rattle.std.proofs.Math.Bool.{false}
 use Rattle.counting.specs.Lists.{table_at}
 use Rattle.input_data.specs.Day.{min_at, max_at, optional_at, numbers_at, no_numbers}
@@ -16,6 +16,14 @@ use Rattle.input_data.specs.Bytes.{not_long, IsDay, word_at, min_in, max_in, opt
 -- number i of those that stand from `at` on
 abbrev pub word_from : List ℕ → ℕ → ℕ → ℕ
 word_from b at i = word_at b (at + 4 * i)
+
+-- two numbers of 32 bits have a product of 64
+pub product_most : {a b : ℕ} → a < 4294967296 → b < 4294967296 → a * b < 2 ^ 64
+product_most {a} {b} h k =
+    let x : a ≤ 4294967295 = omega (arith, h) in
+    let y : b ≤ 4294967295 = omega (arith, k) in
+    let p : a * b ≤ 4294967295 * 4294967295 = mul-le-mul x y in
+    omega (arith, p)
 
 module _ (b : List ℕ) where
   pub min_of : (k : ℕ) → k < 32 → min_at (day_of b) k ≡ min_in b k

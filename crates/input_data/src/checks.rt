@@ -14,6 +14,15 @@ pub struct Beside {
     pub bad_asked: bool,
 }
 
+// None of it is bad.
+pub const NOTHING: Beside = Beside {
+    bad_lengths: false,
+    bad_preferences: false,
+    bad_levels: false,
+    bad_costs: false,
+    bad_asked: false,
+};
+
 // 1.
 pub fn too_many(limits: Limits, choosers: usize, choices: usize, slots: usize) -> bool
     ensures { result ≡ too_many limits choosers choices slots }

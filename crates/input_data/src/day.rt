@@ -1,7 +1,7 @@
 // The day as a call is lent it: bytes, which contracts see as the InputData that they stand for.
 #![tactic(auto, unfolding(crate::specs::Bytes::day_of, crate::specs::Bytes::list_in))]
 
-ghost use Rattle.std.specs.Prelude.{◌≡◌, ◌<◌, get_or};
+ghost use Rattle.std.specs.Prelude.{◌≡◌, ◌<◌, ◌*◌, get_or};
 ghost use Rattle.input_data.specs.Day.{min_at, max_at, optional_at};
 ghost use Rattle.input_data.specs.Read.{day_read};
 
@@ -54,6 +54,22 @@ impl<'a> Day<'a> {
         ensures { result ≡ self.now.slots }
     {
         word(self.bytes, 8) as usize
+    }
+
+    // How many seats it has: each chooser has one in each slot.
+    #[tactic(auto, using(crate::specs::BytesLaws::product_most))]
+    pub fn seats(&self) -> usize
+        ensures { result ≡ self.now.choosers * self.now.slots }
+    {
+        word(self.bytes, 0) as usize * word(self.bytes, 8) as usize
+    }
+
+    // How many preferences it has: each chooser has one for each choice.
+    #[tactic(auto, using(crate::specs::BytesLaws::product_most))]
+    pub fn preferences(&self) -> usize
+        ensures { result ≡ self.now.choosers * self.now.choices }
+    {
+        word(self.bytes, 0) as usize * word(self.bytes, 4) as usize
     }
 
     pub fn max_preference(&self) -> u32

@@ -5,14 +5,16 @@ mod bytes;
 mod checks;
 mod constraints;
 mod day;
+mod fixed;
 
 ghost use Rattle.std.specs.Prelude.{◌≡◌};
 ghost use Rattle.input_data.specs.Lengths.{full_day};
 
 pub use bytes::{flag, word};
-pub use checks::{Beside, too_many};
+pub use checks::{Beside, NOTHING, too_many};
 pub use constraints::Constraints;
 pub use day::Day;
+pub use fixed::FixedLimits;
 
 // How many choosers, choices and slots there may be. Strides and named lengths follow from these.
 #[derive(Clone, Copy)]

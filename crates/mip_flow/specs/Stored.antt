@@ -1,6 +1,6 @@
 -- The lent buffers of the edges, and the edges' numbers, after edges were stored. Definitions and their laws.
-use Rattle.std.specs.Prelude.{ℕ, ◌+◌, ◌*◌, ◌≤◌, ◌<◌, ◌≡◌, refl, true, false, not, List, [], ◌++◌, map, ◌≢◌, eqb, ℤ, pos, length}
-use Rattle.std.proofs.Common.{add-zero, add_assoc, mul-one, arith, length-append, eq-eqb, ne_eqb}
+use Rattle.std.specs.Prelude.{ℕ, zero, suc, ◌+◌, ◌-◌, ◌*◌, ◌≤◌, ◌<◌, ◌≡◌, refl, true, false, not, List, [], ◌++◌, map, Some, None, eqb, ℤ, pos, length}
+use Rattle.std.proofs.Common.{ap, ◌∙◌, add-zero, add_assoc, mul-one, arith, length-append, eq-eqb, ne_eqb}
 use Rattle.std.proofs.lemmas.List.{map-append, length-map}
 use Rattle.counting.specs.Fold.{join_to, sum_to}
 use Rattle.counting.specs.FoldLaws.{fold_none, fold_more}
@@ -8,11 +8,11 @@ use Rattle.counting.specs.Lists.{length_join_most, length_join_sum, only_length}
 use Rattle.counting.specs.Sums.{sum_mono}
 use Rattle.counting.specs.Written.{written}
 use Rattle.counting.specs.WrittenLaws.{written_append, length_written}
-use Rattle.scheduling.specs.Schedule.{entry_at}
+use Rattle.scheduling.specs.Schedule.{entry_at, slot_in}
 use Rattle.input_data.specs.declared.Sizes.{Sizes}
 use Rattle.model_buffers.specs.Stored.{wrote, edge_pushed, edges_with}
 use Rattle.model_buffers.specs.declared.edges.Edges.{Edges}
-use Rattle.mip_flow_static_data.specs.Nodes.{chooser_node, choice_node}
+use Rattle.mip_flow_static_data.specs.Nodes.{chooser_node, choice_node, slot_node}
 use Rattle.mip_flow.specs.Edges.{Offer, Seat, seat, is_open, seat_at, listed_seat, slot_seats, slot_seats_at, chooser_seats, place_at, seat_from, seat_to, seat_max, seat_cost, choice_to, choice_max, choice_cost}
 use Rattle.mip_flow.specs.Index.{EdgeNumbers, numbered_next, seat_cell}
 use Rattle.mip_flow.specs.IndexLaws.{indexed, indexed_append}
@@ -100,15 +100,27 @@ module _ (o : Offer) (c s k : ℕ) (b : Indexed) where
   unfolding store_seats written indexed
   one_seat h hf ht hv = rw (h, hf, ht, hv) refl
 
+-- an entry that names no slot, and one that names slot s
+no_slot : (e : ℕ) → None ≡ slot_in e → e ≡ 0
+no_slot zero h = refl
+no_slot (suc s) h = cc
+
+slot_named : (e s : ℕ) → Some s ≡ slot_in e → e ≡ suc s
+slot_named zero s h = cc
+slot_named (suc t) s h = cc
+
 -- a choice without a slot stores nothing, another its edge
 module _ (y : Choices) (k : ℕ) (e : Edges) where
-  pub no_choice : entry_at y.entries k ≡ 0 → e ≡ store_choices y e (place_at y.entries k)
-  no_choice h = rw (eq-eqb _ _ h, choices_none)
+  pub no_choice : None ≡ slot_in (entry_at y.entries k) → e ≡ store_choices y e (place_at y.entries k)
+  no_choice h = rw (eq-eqb _ _ (no_slot _ h), choices_none)
 
-  pub one_choice : {f t m : ℕ} → entry_at y.entries k ≢ 0 → f ≡ choice_node y.sizes k → t ≡ choice_to y.sizes y.entries k → m ≡ choice_max y.mins y.maxs k
+  pub one_choice : {s f t m : ℕ} → Some s ≡ slot_in (entry_at y.entries k) → f ≡ choice_node y.sizes k → t ≡ slot_node y.sizes s → m ≡ choice_max y.mins y.maxs k
       → edge_pushed e f t m (pos 0) ≡ store_choices y e (place_at y.entries k)
   unfolding store_choices written
-  one_choice h hf ht hm = rw (ne_eqb _ _ h, hf, ht, hm) refl
+  one_choice {s = s} h hf ht hm =
+      let n : entry_at y.entries k ≡ suc s = slot_named _ s h in
+      let m : s ≡ entry_at y.entries k - 1 = omega arith in
+      rw (ne_eqb (entry_at y.entries k) 0 (λ z. omega arith), hf, ht ∙ ap (slot_node y.sizes) m, hm) refl
 
 -- ---- room
 
@@ -171,9 +183,6 @@ lists_below count s n h = omega (arith, fold_more ◌+◌ 0 s count, sum_mono (s
 -- ---- what the builder asks of choices and their slots
 
 pub record Placed (y : Choices) : Type 0 where
-  pub choosers : y.sizes.choosers ≤ 64
-  pub choices : y.sizes.choices ≤ 32
-  pub slots : y.sizes.slots ≤ 8
   pub fits : (k : ℕ) → k < y.sizes.choices → entry_at y.entries k ≤ y.sizes.slots
   pub order : (k : ℕ) → k < y.sizes.choices → entry_at y.mins k ≤ entry_at y.maxs k
   pub light : (k : ℕ) → k < y.sizes.choices → entry_at y.maxs k ≤ 1000

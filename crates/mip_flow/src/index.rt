@@ -1,7 +1,7 @@
 // The numbers of the seats' edges, by chooser and choice.
 ghost use Rattle.std.specs.Prelude.{◌≡◌, ◌<◌, IfSome};
 ghost use Rattle.mip_flow.specs.Index.{unnumbered, numbered_next};
-ghost use Rattle.mip_flow.specs.IndexLaws.{number_at, edge_in};
+ghost use Rattle.mip_flow.specs.IndexLaws.{edge_in};
 
 use std::marker::Model;
 
@@ -31,13 +31,6 @@ impl EdgeIndex {
         }
     }
 
-    // How many edges have a number.
-    pub fn count(&self) -> usize
-        ensures { result ≡ self.now.count }
-    {
-        self.count
-    }
-
     // The edge of chooser c to choice k, if there is one.
     pub fn edge(&self, c: usize, k: usize) -> Option<usize>
         requires { (c < 64) × (k < 32) }
@@ -46,14 +39,6 @@ impl EdgeIndex {
     {
         let e = self.numbers[32 * c + k] as usize;
         if e < self.count { Some(e) } else { None }
-    }
-
-    // The number of the edge of chooser c to choice k.
-    pub fn get(&self, c: usize, k: usize) -> usize
-        requires { (c < 64) × (k < 32) }
-        ensures { result ≡ number_at self.now.numbers c k }
-    {
-        self.numbers[32 * c + k] as usize
     }
 
     // The edge of chooser c to choice k has the next number.

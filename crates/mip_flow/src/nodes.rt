@@ -5,26 +5,35 @@ ghost use Rattle.mip_flow.specs.Edges.{SmallSizes};
 
 use input_data::Sizes;
 
-// The node of chooser c in slot s.
-pub fn chooser_node(sizes: Sizes, c: usize, s: usize) -> usize
-    requires { SmallSizes sizes × (c < sizes.choosers) × (s < sizes.slots) }
-    ensures { (result ≡ chooser_node sizes c s) × (result < 512) }
-{
-    c * sizes.slots + s
+// The nodes of sizes that the fixed memory holds.
+#[derive(Clone, Copy)]
+pub struct Nodes {
+    pub sizes: Sizes,
+    ghost small: { SmallSizes sizes },
 }
 
-// The node of choice k.
-pub fn choice_node(sizes: Sizes, k: usize) -> usize
-    requires { SmallSizes sizes × (k < sizes.choices) }
-    ensures { (result ≡ choice_node sizes k) × (result < 544) }
-{
-    sizes.choosers * sizes.slots + k
-}
+impl Nodes {
+    // The node of chooser c in slot s.
+    pub fn chooser(self, c: usize, s: usize) -> usize
+        requires { (c < self.sizes.choosers) × (s < self.sizes.slots) }
+        ensures { (result ≡ chooser_node self.sizes c s) × (result < 512) }
+    {
+        c * self.sizes.slots + s
+    }
 
-// The node of slot s.
-pub fn slot_node(sizes: Sizes, s: usize) -> usize
-    requires { SmallSizes sizes × (s < 8) }
-    ensures { (result ≡ slot_node sizes s) × (result < 552) }
-{
-    sizes.choosers * sizes.slots + sizes.choices + s
+    // The node of choice k.
+    pub fn choice(self, k: usize) -> usize
+        requires { k < self.sizes.choices }
+        ensures { (result ≡ choice_node self.sizes k) × (result < 544) }
+    {
+        self.sizes.choosers * self.sizes.slots + k
+    }
+
+    // The node of slot s.
+    pub fn slot(self, s: usize) -> usize
+        requires { s < 8 }
+        ensures { (result ≡ slot_node self.sizes s) × (result < 552) }
+    {
+        self.sizes.choosers * self.sizes.slots + self.sizes.choices + s
+    }
 }

@@ -1,7 +1,8 @@
 // Which seats have an edge, and what it costs.
 ghost use Rattle.std.specs.Prelude.{◌≡◌, ◌<◌, pos, length, get_or};
-ghost use Rattle.mip_flow.specs.Edges.{offer, preference_of, is_open, Offered, SmallSizes};
+ghost use Rattle.mip_flow.specs.Edges.{offer, preference_of, is_open, Offered};
 
+use crate::Nodes;
 use input_data::Sizes;
 use model_buffers::LentInput;
 use std::marker::Model;
@@ -41,10 +42,10 @@ impl<'a, 'b> Offer<'a, 'b> {
         }
     }
 
-    pub fn sizes(&self) -> Sizes
-        ensures { (result ≡ self.now.sizes) × SmallSizes self.now.sizes }
+    pub fn nodes(&self) -> Nodes
+        ensures { result.sizes ≡ self.now.sizes }
     {
-        self.sizes
+        Nodes { sizes: self.sizes }
     }
 
     pub fn choosers(&self) -> usize

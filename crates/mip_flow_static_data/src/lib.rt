@@ -32,7 +32,7 @@ pub fn put_supplies(
     ensures { out.new ≡ written out.old 0 (supplies sizes schedule.now day.now.mins covered.now) }
 {
     let n = sizes.choosers * sizes.slots;
-    let choosers = sizes.choosers as u32;
+    let choosers = sizes.choosers as i32;
     // a chooser in a slot supplies 1
     put_each(out, 0, n, |_| 1);
     // a scheduled choice takes in its min at least, another nothing
@@ -40,10 +40,10 @@ pub fn put_supplies(
         if schedule[k] == 0 {
             0
         } else {
-            counting::minus(day.min(k))
+            -(day.min(k) as i32)
         }
     });
     put_each(out, n + sizes.choices, sizes.slots, |s| {
-        counting::difference(covered[s], choosers)
+        covered[s] as i32 - choosers
     });
 }

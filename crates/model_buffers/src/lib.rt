@@ -7,14 +7,14 @@ mod buffers;
 mod edges;
 mod groups;
 
-ghost use Rattle.std.specs.Prelude.{◌≡◌, ◌<◌, ◌^◌, not, ◌||◌, eqb, length};
-ghost use Rattle.input_data.specs.Lengths.{Within, preferences_length, costs_length};
+ghost use Rattle.std.specs.Prelude.{◌≡◌, not, ◌||◌, eqb, length};
+ghost use Rattle.input_data.specs.Lengths.{preferences_length, costs_length};
 ghost use Rattle.model_buffers.specs.Lengths.{short_edges, short_groups, short_buffers, short_values};
 
 pub use buffers::LentBuffers;
 pub use edges::Edges;
 pub use groups::{Groups, Part};
-use input_data::{Day, Limits};
+use input_data::{Day, FixedLimits};
 
 // How long the eight lent buffers of a model are.
 #[derive(Clone, Copy)]
@@ -59,11 +59,10 @@ pub struct ModelAnswer {
     pub blocked: usize,
 }
 
-fn short_edges(limits: Limits, lengths: Lengths) -> bool
-    requires { Within limits }
-    ensures { result ≡ short_edges limits lengths }
+fn short_edges(fixed: FixedLimits, lengths: Lengths) -> bool
+    ensures { result ≡ short_edges fixed.limits lengths }
 {
-    let edges = limits.choosers * limits.choices + limits.choices;
+    let edges = fixed.edges_length();
     (lengths.from < edges) | (lengths.to < edges) | (lengths.max < edges) | (lengths.cost < edges)
 }
 
@@ -74,28 +73,26 @@ fn short_groups(lengths: Lengths) -> bool
 }
 
 // 2. One of the buffers is shorter than its named length.
-pub fn short_buffers(limits: Limits, lengths: Lengths) -> bool
-    requires { Within limits }
-    ensures { result ≡ short_buffers limits lengths }
+pub fn short_buffers(fixed: FixedLimits, lengths: Lengths) -> bool
+    ensures { result ≡ short_buffers fixed.limits lengths }
 {
-    let nodes = limits.choosers * limits.slots + limits.choices + limits.slots;
-    (lengths.supplies < nodes) | short_edges(limits, lengths) | short_groups(lengths)
+    (lengths.supplies < fixed.supplies_length())
+        | short_edges(fixed, lengths)
+        | short_groups(lengths)
 }
 
 // 2. The values or the plan are shorter than their named lengths.
-pub fn short_values(limits: Limits, values: usize, plan: usize) -> bool
-    requires { Within limits }
-    ensures { result ≡ short_values limits values plan }
+pub fn short_values(fixed: FixedLimits, values: usize, plan: usize) -> bool
+    ensures { result ≡ short_values fixed.limits values plan }
 {
-    let edges = limits.choosers * limits.choices + limits.choices;
-    (values < edges) | (plan < limits.choosers * limits.slots)
+    (values < fixed.edges_length()) | (plan < fixed.plan_length())
 }
 
 // 2. The preferences or the costs have not exactly their length.
 pub fn wrong_tables(day: &Day, input: &LentInput) -> bool
-    requires { preferences_length day.now < 2 ^ 64 }
-    ensures { result ≡ (not (eqb (length input.now.preferences.now) (preferences_length day.now)) || not (eqb (length input.now.costs.now) (costs_length day.now))) }
+    ensures { result ≡ (not (eqb (length input.now.preferences.now) (preferences_length day.now))
+        || not (eqb (length input.now.costs.now) (costs_length day.now))) }
 {
-    (input.preferences.len() != day.choosers() * day.choices())
+    (input.preferences.len() != day.preferences())
         | (input.costs.len() != day.max_preference() as usize + 1)
 }

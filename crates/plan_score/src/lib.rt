@@ -2,10 +2,10 @@
 #![tactic(auto)]
 
 ghost use Rattle.std.specs.Prelude.{◌≡◌, ◌≤◌, length};
-ghost use Rattle.feasibility.specs.Laws.{Judged};
 ghost use Rattle.plan_score.specs.Evaluate.{major_of, score_of, finite_or_infinite, evaluated};
 ghost use Rattle.plan_score.specs.Laws.{Weighed};
 
+use feasibility::JudgedPlan;
 use input_data::Day;
 use score::Score;
 use seat_counts::SeatPreferences;
@@ -53,12 +53,12 @@ impl Scoring<'_> {
 
     // The score of a plan that was looked at: infinite twice where it is not feasible.
     #[tactic(auto, unfolding(crate::specs::Evaluate::evaluated))]
-    pub fn evaluate(&self, day: &Day, entries: &[u8; 32], plan: &[u8]) -> Score
-        requires { Judged day.now entries.now plan.now × Weighed day.now self.now.preferences.now (length self.now.powers.now) plan.now }
-        ensures { result ≡ evaluated day.now self.now.greedy self.now.preferences.now self.now.powers.now entries.now plan.now }
+    pub fn evaluate(&self, of: &JudgedPlan) -> Score
+        requires { Weighed of.now.day.now self.now.preferences.now (length self.now.powers.now) of.now.plan.now }
+        ensures { result ≡ evaluated of.now.day.now self.now.greedy self.now.preferences.now self.now.powers.now of.now.entries of.now.plan.now }
     {
-        if feasibility::plan_holds(day, entries, plan) {
-            self.score_of(day, plan)
+        if of.is_feasible() {
+            self.score_of(of.day, of.plan)
         } else {
             Score::infinite()
         }

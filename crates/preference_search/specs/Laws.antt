@@ -1,27 +1,31 @@
--- Laws of the steps: the start, the middle, what narrows a range; parts of lent bytes and their copies. Assumes nothing.
-use Rattle.std.specs.Prelude.{ℕ, ◌+◌, ◌-◌, ◌<◌, ◌≤◌, ◌≡◌, refl, Bool, true, false, ◌&&◌, List, ◌≢◌, leb, Some, None, length, take, drop}
-use Rattle.std.proofs.Common.{sym, arith, length-drop, length-take-le, le-ltb}
-use Rattle.std.proofs.lemmas.Bool.{eqb-false}
+-- Laws of the steps: the start, the middle, what narrows a range; two schedules as the library compares them; parts of lent bytes. Assumes nothing.
+use Rattle.std.specs.Prelude.{ℕ, ◌+◌, ◌-◌, ◌<◌, ◌≤◌, ◌≡◌, refl, min, Bool, true, false, ◌&&◌, List, ◌≢◌, eqb, leb, Some, None, length, take, drop, get_or}
+use Rattle.std.proofs.Common.{sym, ap, ◌∙◌, arith, length-drop, length-take-le, le-ltb, get_or-take, ext_get_or, eqb-true, eq-eqb}
+use Rattle.std.proofs.lemmas.Bool.{eqb-false, not-true, not-false}
+use Rattle.std.proofs.lemmas.Slice.Eq.{bytes_eq-Decides}
+use Rattle.std.specs.Str.{bytes_eq}
 use Rattle.std.proofs.lemmas.List.Quantifiers.{position-Some}
 use Rattle.std.proofs.lemmas.List.Sums.{fails_before_first}
 use Rattle.std.specs.List.{position, position_or_len}
 use Rattle.counting.specs.SearchLaws.{first_at, first_none}
-use Rattle.counting.specs.Tests.{lt_cases, never}
+use Rattle.counting.specs.Fold.{any_to}
+use Rattle.counting.specs.Tests.{bool_cases, lt_cases, never, Passes, some_passes, none_each, places_all}
 use Rattle.assignment.specs.Calls.{seats}
+use Rattle.assignment.specs.Laws.{Small}
 use Rattle.input_data.specs.declared.InputData.{InputData}
 use Rattle.scheduling.specs.Handed.{kept_of}
 use Rattle.preference_search.specs.Search.{LimitSolveResult, Feasible, Infeasible, Incomplete, Told, reaches, start_of, middle, level_at, of_result, told, marked, learnt, ends_at, low_after, high_after, is_feasible}
-use Rattle.preference_search.specs.Steps.{over, next, known_by, asked_again, told_range}
-use Rattle.preference_search.specs.declared.CachedAssignment.{CachedAssignment}
+use Rattle.preference_search.specs.Steps.{next, known_by, asked_again, told_range, differs_in, is_equal}
 use Rattle.preference_search.specs.declared.Known.{Known}
 use Rattle.preference_search.specs.declared.Search.{Search}
 
 abbrev pub is_infeasible : LimitSolveResult → Bool
 is_infeasible r = of_result r false true false
 
--- a told plan that is looked at has all seats
-pub record HasSeats (seats : ℕ) (t : Told) : Type 0 where
-  pub long : is_feasible t.result ≡ true → seats ≤ length t.plan
+-- what tell works with: a small day, and a told plan that has all its seats
+pub record Holding (d : InputData) (t : Told) : Type 0 where
+  pub small : Small d
+  pub long : is_feasible t.result ≡ true → seats d ≤ length t.plan
 
 -- a range that is not spent
 pub record Ranged (s : Search) (levels : List ℕ) : Type 0 where
@@ -63,12 +67,6 @@ above_start start m Feasible h e f = let d : m ≢ start = eqb-false m start e i
 above_start start m Infeasible h e f = never (sym f)
 above_start start m Incomplete h e f = never (sym f)
 
--- the range narrows within the levels
-pub high_most : (high m n : ℕ) (r : LimitSolveResult) → high < n → m ≤ high → high_after high m r < n
-high_most high m n Feasible h l = omega arith
-high_most high m n Infeasible h l = h
-high_most high m n Incomplete h l = h
-
 -- an answer that is not feasible: the best plan so far stays, and the range goes on above the middle
 pub record Stays (seats level : ℕ) (k : Known) (start low high m : ℕ) (r : LimitSolveResult) (plan : List ℕ) : Type 0 where
   pub known : learnt seats level k (told r plan) ≡ marked k (is_infeasible r && k.optimal)
@@ -88,17 +86,22 @@ told_again d s levels r plan f h =
     let q = stays (seats d) (level_at levels m) (known_by s) s.start s.low s.high m r plan f in
     rw (q.ends, q.known, q.from, q.to, le-ltb s.high (m + 1) (omega arith))
 
--- an answer at the middle ends the search, or narrows its range; the parts as the code has them
-module _ (d : InputData) (s : Search) (levels : List ℕ) (t : Told) {asks start low high m : ℕ} {sch : List ℕ} {k : Known} {c : CachedAssignment} (p₁ : asks ≡ s.asks) (p₂ : start ≡ s.start) (p₃ : low ≡ s.low) (p₄ : high ≡ s.high) (p₅ : m ≡ middle s.low s.high) (p₆ : sch ≡ kept_of d s.schedule) (p₇ : k ≡ learnt (seats d) (level_at levels m) (known_by s) t) (p₈ : c ≡ s.cached) where
-  pub told_over : ends_at start m t.result ≡ true → over false asks start low high sch k c ≡ told_range d s levels t
-  told_over e =
-      let f : ends_at s.start (middle s.low s.high) t.result ≡ true = rw (p₂, p₅) at e in
-      rw f (rw (p₁, p₂, p₃, p₄, p₆, p₇, p₈, p₅))
-
-  pub told_next : ends_at start m t.result ≡ false → next levels asks start (low_after low m t.result) (high_after high m t.result) sch k c ≡ told_range d s levels t
-  told_next e =
-      let f : ends_at s.start (middle s.low s.high) t.result ≡ false = rw (p₂, p₅) at e in
-      rw f (rw (p₁, p₂, p₃, p₄, p₆, p₇, p₈, p₅))
+-- two schedules over the day's choices, as the library compares them
+pub equal_parts : (choices : ℕ) (a b : List ℕ) → length a ≡ 32 → length b ≡ 32 → bytes_eq (take (min choices 32) a) (take (min choices 32) b) ≡ is_equal choices a b
+equal_parts choices a b p q =
+    let n = min choices 32 in
+    let f = differs_in a b in
+    let same = bytes_eq-Decides (take n a) (take n b) in
+    rw (sym (places_all 32 choices f)) (bool_cases (any_to n f)
+    (λ t. let w : Passes n f = some_passes n f t in
+    let d : eqb (get_or a w.at 0) (get_or b w.at 0) ≡ false = not-true _ w.holds in
+    rw t (bool_cases (bytes_eq (take n a) (take n b))
+    (λ e. let g : get_or a w.at 0 ≡ get_or b w.at 0 = sym (get_or-take n a w.at 0 w.below) ∙ ap (λ l. get_or l w.at 0) (same.0 e) ∙ get_or-take n b w.at 0 w.below in
+    never (sym (eq-eqb _ _ g) ∙ d))
+    (λ e. e)))
+    (λ t. rw t (same.1 (ext_get_or 0 (take n a) (take n b) (length-take-le n a (omega arith) ∙ sym (length-take-le n b (omega arith)))
+    (λ k l. let h : k < n = omega (arith, length-take-le n a (omega arith)) in
+    get_or-take n a k 0 h ∙ eqb-true _ _ (not-false _ (none_each n f t k h)) ∙ sym (get_or-take n b k 0 h))))))
 
 -- a part of lent bytes
 pub part_long : (at n : ℕ) (b : List ℕ) → at + n ≤ length b → length (take n (drop at b)) ≡ n

@@ -3,7 +3,7 @@ ghost use Rattle.std.specs.Prelude.{◌≡◌};
 ghost use Rattle.preference_search.specs.Answered.{search_answered};
 ghost use Rattle.preference_search.specs.Steps.{no_search};
 
-use crate::{Asked, CachedAssignment, Search, SearchAnswer};
+use crate::{Ask, Asked, CachedAssignment, Search, SearchAnswer};
 use refusal::Refusal;
 use scheduling::Scheduling;
 
@@ -38,12 +38,15 @@ impl From<Result<Asked, Refusal>> for SearchAnswer {
 
     fn from(res: Result<Asked, Refusal>) -> SearchAnswer {
         match res {
-            Ok(asked) => SearchAnswer {
-                number: 0,
-                level: asked.level,
-                index: asked.index,
-                search: asked.search,
-            },
+            Ok(asked) => {
+                let ask = asked.ask.unwrap_or(Ask { level: 0, index: 0 });
+                SearchAnswer {
+                    number: 0,
+                    level: ask.level,
+                    index: ask.index,
+                    search: asked.search,
+                }
+            }
             Err(refusal) => SearchAnswer {
                 number: u32::from(refusal),
                 level: 0,

@@ -1,40 +1,22 @@
 // A search and what it remembers as a call is lent them: bytes, which contracts see as the structs that they stand for.
-ghost use Rattle.std.specs.Prelude.{◌≡◌, ◌≤◌, ◌+◌, length, take, drop};
-ghost use Rattle.assignment.specs.Calls.{seats};
-ghost use Rattle.assignment.specs.Laws.{Small};
+ghost use Rattle.std.specs.Prelude.{◌≡◌};
 ghost use Rattle.preference_search.specs.Answered.{range_by};
 ghost use Rattle.preference_search.specs.Bytes.{IsCached, IsSearch, cached_in, search_in};
 ghost use Rattle.preference_search.specs.Search.{marked};
 ghost use Rattle.preference_search.specs.Steps.{is_equal, known_by, remembers};
 
 use crate::{CachedAssignment, Known, Range};
-use counting::any_of;
-use input_data::{Day, flag, word};
+use input_data::{flag, word};
 use scheduling::Scheduling;
 use std::marker::Model;
 
-// How many seats a day has.
-pub fn seats(day: &Day) -> usize
-    requires { Small day.now }
-    ensures { result ≡ seats day.now }
-{
-    day.choosers() * day.slots()
-}
-
-// The bytes from a place on, as an array.
-fn array_at<'a, const N: usize>(bytes: &'a [u8], at: usize) -> &'a [u8; N]
-    requires { at + N ≤ length bytes.now }
-    ensures { result.now ≡ take N (drop at bytes.now) }
-{
-    bytes[at..at + N].try_into().unwrap()
-}
-
 // Whether two schedules are equal, over the day's choices.
-fn is_equal(choices: usize, a: &[u8], b: &[u8]) -> bool
-    requires { (length a.now ≡ 32) × (length b.now ≡ 32) }
+#[tactic(auto, using(crate::specs::Laws::equal_parts))]
+fn is_equal(choices: usize, a: &[u8; 32], b: &[u8; 32]) -> bool
     ensures { result ≡ is_equal choices a.now b.now }
 {
-    !any_of::<32, _>(choices, |i| a[i] != b[i])
+    let n = choices.min(32);
+    a[..n] == b[..n]
 }
 
 #[derive(Drop)]
@@ -70,19 +52,18 @@ impl<'a> LentCached<'a> {
     pub fn schedule(&self) -> &'a [u8; 32]
         ensures { result.now ≡ self.now.schedule.entries }
     {
-        array_at(self.bytes, 2)
+        self.bytes[2..34].as_array().unwrap()
     }
 
     pub fn plan(&self) -> &'a [u8; 512]
         ensures { result.now ≡ self.now.plan }
     {
-        array_at(self.bytes, 34)
+        self.bytes[34..546].as_array().unwrap()
     }
 
     // Whether it answers a search of this schedule with this greedy setting.
     #[tactic(auto, unfolding(crate::specs::Steps::remembers))]
-    pub fn remembers(&self, choices: usize, entries: &[u8], greedy: bool) -> bool
-        requires { length entries.now ≡ 32 }
+    pub fn remembers(&self, choices: usize, entries: &[u8; 32], greedy: bool) -> bool
         ensures { result ≡ remembers choices entries.now greedy self.now }
     {
         self.is_there()
@@ -172,13 +153,13 @@ impl<'a> LentSearch<'a> {
     pub fn schedule(&self) -> &'a [u8; 32]
         ensures { result.now ≡ self.now.schedule.entries }
     {
-        array_at(self.bytes, 24)
+        self.bytes[24..56].as_array().unwrap()
     }
 
     pub fn plan(&self) -> &'a [u8; 512]
         ensures { result.now ≡ self.now.plan }
     {
-        array_at(self.bytes, 56)
+        self.bytes[56..568].as_array().unwrap()
     }
 
     // What it remembers.

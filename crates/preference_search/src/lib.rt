@@ -3,12 +3,16 @@
 #![tactic(auto)]
 
 mod answers;
+mod asked;
 mod lent;
 mod steps;
+mod telling;
 
-pub use lent::{LentCached, LentSearch, seats};
+pub use asked::{Ask, Asked};
+pub use lent::{LentCached, LentSearch};
 use scheduling::Scheduling;
 pub use steps::start_of;
+pub use telling::Telling;
 
 // What a solver answers to an ask; a feasible one has a plan.
 #[derive(Clone, Copy)]
@@ -65,15 +69,7 @@ pub struct Search {
     pub cached: CachedAssignment,
 }
 
-// A search, and the level that it asks for with its index; zeros where it does not ask.
-#[derive(Clone, Copy)]
-pub struct Asked {
-    pub level: u32,
-    pub index: u32,
-    pub search: Search,
-}
-
-// The same with the call's number, as C reads it.
+// The same with the call's number, as C reads it: zeros stand for the level and the index where it does not ask.
 #[repr(C)]
 #[derive(Clone, Copy)]
 pub struct SearchAnswer {

@@ -1,7 +1,8 @@
 // The parts of a step: where a search starts, what an answer teaches, what is left of the range.
 ghost use Rattle.std.specs.Prelude.{position, leb, true, ◌≡◌, ◌<◌, ◌≤◌, length};
+ghost use Rattle.assignment.specs.Calls.{seats};
 ghost use Rattle.preference_search.specs.Answered.{range_after, told_by};
-ghost use Rattle.preference_search.specs.Laws.{is_infeasible, HasSeats};
+ghost use Rattle.preference_search.specs.Laws.{is_infeasible};
 ghost use Rattle.preference_search.specs.Search.{ends_at, found_at, is_feasible, learnt, learnt_greedy, marked, middle, nothing, start_of};
 ghost use Rattle.preference_search.specs.Steps.{known_by};
 
@@ -36,7 +37,7 @@ impl Known {
 
     // What a search knows once it is told the answer at a level.
     pub fn learn(seats: usize, level: u32, search: &LentSearch, told: &Told) -> Known
-        requires { HasSeats seats (told_by told.now) }
+        requires { is_feasible (told_by told.now).result ≡ true → seats ≤ length (told_by told.now).plan }
         ensures { result ≡ learnt seats level (known_by search.now) (told_by told.now) }
     {
         match told {
@@ -48,7 +49,7 @@ impl Known {
 
     // The same of a greedy search.
     pub fn learn_greedy(seats: usize, level: u32, told: &Told) -> Known
-        requires { HasSeats seats (told_by told.now) }
+        requires { is_feasible (told_by told.now).result ≡ true → seats ≤ length (told_by told.now).plan }
         ensures { result ≡ learnt_greedy seats level (told_by told.now) }
     {
         match told {

@@ -16,22 +16,11 @@ use Rattle.scheduling.specs.Handed.{schedule_of, not_schedule, outside}
 use Rattle.assignment.specs.Calls.{seats}
 use Rattle.assignment.specs.Laws.{Small, small}
 use Rattle.preference_search.specs.Bytes.{IsCached, IsSearch, not_cached, not_search, cached_in, search_in}
-use Rattle.preference_search.specs.Laws.{HasSeats, Ranged}
+use Rattle.preference_search.specs.Laws.{Holding, Ranged}
 use Rattle.preference_search.specs.Search.{Told, is_feasible}
 use Rattle.preference_search.specs.declared.Search.{Search}
 use Rattle.preference_search_checks.specs.Read.{begin_read_number, tell_read_number}
 use Rattle.preference_search_checks.specs.Checks.{beside_levels, wrong_length, outside_cached, begin_number, bad_range, spent_at, spent, bad_cached, bad_told, held_number, tell_number, begin_lent_number, tell_lent_number}
-
--- what begin works with
-pub record Opening (d : InputData) (sch levels : List ℕ) : Type 0 where
-  pub small : Small d
-  pub schedule : length sch ≡ 32
-  pub few : length levels ≤ 256
-
--- what tell works with
-pub record Holding (d : InputData) (t : Told) : Type 0 where
-  pub small : Small d
-  pub told : HasSeats (seats d) t
 
 -- ---- laws
 
@@ -54,10 +43,10 @@ module _ (l : Limits) (d : InputData) (levels : List ℕ) (wrong : Bool) (rest :
   day_few = levels_few d.max_preference levels (past l d (beside_levels d levels wrong) rest e).levels
 
 -- a plan of its length has all seats
-told_long : (l : Limits) (d : InputData) (levels : List ℕ) (t : Told) (rest : ℕ) → Within l → day_number l d (beside_levels d levels (wrong_length l t)) rest ≡ 0 → is_feasible t.result ≡ true → seats d ≤ length t.plan
-told_long l d levels t rest w e f =
-    let a = accepted l d (beside_levels d levels (wrong_length l t)) rest w e in
-    let p : (is_feasible t.result && not (eqb (length t.plan) (plan_length l))) ≡ false = (past l d (beside_levels d levels (wrong_length l t)) rest e).lengths in
+told_long : (l : Limits) (d : InputData) (levels : List ℕ) (t : Told) → Within l → day_number l d (beside_levels d levels (wrong_length l t)) 0 ≡ 0 → is_feasible t.result ≡ true → seats d ≤ length t.plan
+told_long l d levels t w e f =
+    let a = accepted l d (beside_levels d levels (wrong_length l t)) 0 w e in
+    let p : (is_feasible t.result && not (eqb (length t.plan) (plan_length l))) ≡ false = (past l d (beside_levels d levels (wrong_length l t)) 0 e).lengths in
     let q : not (eqb (length t.plan) (plan_length l)) ≡ false = rw f at p in
     let n : length t.plan ≡ plan_length l = eqb-true _ _ (not-false _ q) in
     let m : seats d ≤ plan_length l = mul-le-mul a.choosers a.slots in
@@ -86,27 +75,10 @@ module _ (l : Limits) (d : InputData) (sch levels c : List ℕ) where
   abbrev opening : Bool
   opening = not_schedule sch || not_cached c
 
-  begin_long : opening ≡ false → (length sch ≡ 32) × IsCached c
-  begin_long e = let q : (not_schedule sch ≡ false) × (not_cached c ≡ false) = or_split e in (is_long 32 sch q.0, is_long 546 c q.1)
-
-  begun_with : (rest : ℕ) → Within l → day_number l d (beside_levels d levels opening) rest ≡ 0 → Opening d sch levels
-  begun_with rest w e = record {
-    small = day_small l d levels opening rest w e;
-    schedule = (begin_long (past l d (beside_levels d levels opening) rest e).lengths).0;
-    few = day_few l d levels opening rest w e;
-  }
-
-  -- once the day has passed
-  pub begin_passed : Within l → day_number l d (beside_levels d levels opening) 0 ≡ 0 → Opening d sch levels
-  begin_passed w e = begun_with 0 w e
-
   pub begin_cached : day_number l d (beside_levels d levels opening) 0 ≡ 0 → IsCached c
-  begin_cached e = (begin_long (past l d (beside_levels d levels opening) 0 e).lengths).1
-
-  -- once all has passed
-  pub begin_opening : Within l → begin_read_number l d sch levels c ≡ 0 → Opening d sch levels
-  unfolding begin_read_number
-  begin_opening w e = begun_with _ w e
+  begin_cached e =
+      let q : (not_schedule sch ≡ false) × (not_cached c ≡ false) = or_split (past l d (beside_levels d levels opening) 0 e).lengths in
+      is_long 546 c q.1
 
 -- the number of the call that is lent the day
 pub begin_number_read : (l : Limits) (day sch levels c : List ℕ) {d : InputData} {n : ℕ} → Ok d ≡ day_read day → n ≡ begin_read_number l d sch levels c → n ≡ begin_lent_number l day sch levels c
@@ -124,28 +96,21 @@ module _ (l : Limits) (d : InputData) (s levels : List ℕ) (t : Told) where
   abbrev telling : Bool
   telling = not_search s || wrong_length l t
 
-  told_right : (rest : ℕ) → day_number l d (beside_levels d levels telling) rest ≡ 0 → IsSearch s × (day_number l d (beside_levels d levels (wrong_length l t)) rest ≡ 0)
-  told_right rest e =
-      let q : (not_search s ≡ false) × (wrong_length l t ≡ false) = or_split (past l d (beside_levels d levels telling) rest e).lengths in
+  told_right : day_number l d (beside_levels d levels telling) 0 ≡ 0 → IsSearch s × (day_number l d (beside_levels d levels (wrong_length l t)) 0 ≡ 0)
+  told_right e =
+      let q : (not_search s ≡ false) × (wrong_length l t ≡ false) = or_split (past l d (beside_levels d levels telling) 0 e).lengths in
       (is_long 1114 s q.0, rw q.0 at e)
-
-  told_with : (rest : ℕ) → Within l → day_number l d (beside_levels d levels telling) rest ≡ 0 → Holding d t
-  told_with rest w e =
-      let f = (told_right rest e).1 in
-      record { small = day_small l d levels (wrong_length l t) rest w f; told = record { long = told_long l d levels t rest w f } }
 
   -- once the day has passed
   pub tell_passed : Within l → day_number l d (beside_levels d levels telling) 0 ≡ 0 → Holding d t
-  tell_passed w e = told_with 0 w e
+  tell_passed w e =
+      let f = (told_right e).1 in
+      record { small = day_small l d levels (wrong_length l t) 0 w f; long = told_long l d levels t w f }
 
   pub tell_search : day_number l d (beside_levels d levels telling) 0 ≡ 0 → IsSearch s
-  tell_search e = (told_right 0 e).0
+  tell_search e = (told_right e).0
 
   -- once all has passed
-  pub tell_holding : Within l → tell_read_number l d s levels t ≡ 0 → Holding d t
-  unfolding tell_read_number
-  tell_holding w e = told_with _ w e
-
   pub tell_range : Within l → tell_read_number l d s levels t ≡ 0 → (search_in s).greedy ≡ false → Ranged (search_in s) levels
   unfolding tell_read_number held_number
   tell_range w e g =

@@ -1,26 +1,24 @@
 // The checks of begin and tell.
 #![tactic(auto)]
 
-ghost use Rattle.std.specs.Prelude.{◌≡◌, ◌&&◌, length, IfOk};
+mod opening;
+
+ghost use Rattle.std.specs.Prelude.{◌≡◌, length, IfOk};
 ghost use Rattle.refusal.specs.Number.{outcome};
-ghost use Rattle.input_data.specs.Lengths.{Within};
-ghost use Rattle.assignment.specs.Calls.{seats};
 ghost use Rattle.assignment.specs.Laws.{Small};
-ghost use Rattle.assignment.specs.Plan.{bad_plan_for};
 ghost use Rattle.preference_search.specs.Answered.{told_by};
 ghost use Rattle.preference_search.specs.Bytes.{cached_in, search_in};
-ghost use Rattle.preference_search.specs.Laws.{HasSeats};
 ghost use Rattle.preference_search.specs.Search.{is_feasible};
 ghost use Rattle.preference_search_checks.specs.Checks.{bad_cached, bad_if, bad_plans, beside_levels, held_number, outside_cached, spent, wrong_length};
 ghost use Rattle.preference_search_checks.specs.Read.{begin_read_number, tell_read_number};
-ghost use Rattle.preference_search_checks.specs.Numbers.{Holding};
 
 use assignment::bad_plan_for;
 use day_checks::check_day;
-use input_data::{Beside, Day, Limits};
-use preference_search::{LentCached, LentSearch, Told, seats};
+use input_data::{Beside, Day, FixedLimits, NOTHING};
+pub use opening::Opening;
+use preference_search::{LentCached, LentSearch, Telling, Told};
 use refusal::Refusal;
-use scheduling::bad_slots;
+use scheduling::{bad_slots, read_entries};
 
 // 11 of what is remembered, if anything is.
 fn outside_cached(day: &Day, cached: &LentCached) -> bool
@@ -34,7 +32,7 @@ fn bad_cached(day: &Day, cached: &LentCached) -> bool
     requires { Small day.now }
     ensures { result ≡ bad_cached day.now cached.now }
 {
-    cached.is_there() && bad_plan_for(day.choices(), seats(day), cached.schedule(), cached.plan())
+    cached.is_there() && bad_plan_for(day, cached.schedule(), cached.plan())
 }
 
 fn beside(day: &Day, levels: &[u32], wrong: bool) -> Beside
@@ -42,37 +40,40 @@ fn beside(day: &Day, levels: &[u32], wrong: bool) -> Beside
 {
     Beside {
         bad_lengths: wrong,
-        bad_preferences: false,
         bad_levels: day_checks::bad_levels(day.max_preference(), levels),
-        bad_costs: false,
-        bad_asked: false,
+        ..NOTHING
     }
 }
 
-// What is remembered is handed on as it is read.
-#[tactic(auto, using(input_data::specs::ReadLaws::day_refused, input_data::specs::ReadLaws::day_passed, crate::specs::Numbers::begin_passed, crate::specs::Numbers::begin_cached), unfolding(crate::specs::Read::begin_read_number, input_data::specs::Checks::first_of))]
+// The schedule and what is remembered are handed on as they are read.
+#[tactic(auto, using(input_data::specs::ReadLaws::day_refused, input_data::specs::ReadLaws::day_passed, crate::specs::Numbers::day_small, crate::specs::Numbers::day_few, crate::specs::Numbers::begin_cached), unfolding(crate::specs::Read::begin_read_number, input_data::specs::Checks::first_of))]
 pub fn check_begin<'a>(
-    limits: Limits,
-    day: &Day,
-    schedule: &[u8],
-    levels: &[u32],
+    fixed: FixedLimits,
+    day: &'a Day<'a>,
+    schedule: &'a [u8],
+    levels: &'a [u32],
     cached: &'a [u8],
-) -> Result<LentCached<'a>, Refusal>
-    requires { Within limits }
-    ensures number { outcome result ≡ begin_read_number limits day.now schedule.now levels.now cached.now }
-    ensures read { IfOk result (λ c. c ≡ cached_in cached.now) }
+) -> Result<Opening<'a>, Refusal>
+    ensures number { outcome result ≡ begin_read_number fixed.limits day.now schedule.now levels.now cached.now }
+    ensures lent { IfOk result (λ o. (o.day.now ≡ day.now) × (o.levels.now ≡ levels.now)) }
+    ensures read { IfOk result (λ o. (o.entries.now ≡ schedule.now) × (o.cached ≡ cached_in cached.now)) }
 {
-    let wrong = (schedule.len() != 32) | (cached.len() != 546);
-    check_day(limits, day, beside(day, levels, wrong))?;
+    let wrong = cached.len() != 546;
+    let entries = read_entries(fixed.limits, day, schedule, beside(day, levels, wrong))?;
     let cached = LentCached::lent(cached);
-    let outside = bad_slots(day.choices(), day.slots(), schedule);
+    let outside = bad_slots(day.choices(), day.slots(), entries);
     if outside | outside_cached(day, &cached) {
         return Err(Refusal::Schedule);
     }
     if bad_cached(day, &cached) {
         return Err(Refusal::Plan);
     }
-    Ok(cached)
+    Ok(Opening {
+        day,
+        entries,
+        levels,
+        cached,
+    })
 }
 
 // 18. `count` is the count of levels.
@@ -88,53 +89,47 @@ fn is_spent(search: &LentSearch, count: usize) -> bool
 }
 
 // 13 of a told plan, which is looked at where the result is feasible.
-fn bad_told(day: &Day, search: &LentSearch, told: &Told) -> bool
-    requires { Holding day.now (told_by told.now) }
-    ensures { result ≡ bad_if day.now (is_feasible (told_by told.now).result) search.now.schedule (told_by told.now).plan }
+fn bad_told(t: &Telling) -> bool
+    ensures { result ≡ bad_if t.now.day.now (is_feasible (told_by t.now.told.now).result) t.now.search.schedule (told_by t.now.told.now).plan }
 {
-    match told {
-        Told::Feasible(plan) => bad_plan_for(day.choices(), seats(day), search.schedule(), plan),
+    match t.told {
+        Told::Feasible(plan) => bad_plan_for(t.day, t.search.schedule(), plan),
         Told::Infeasible | Told::Incomplete => false,
     }
 }
 
 // 13 of the told plan and of the best so far.
-fn bad_plans(day: &Day, search: &LentSearch, told: &Told) -> bool
-    requires { Holding day.now (told_by told.now) }
-    ensures { result ≡ bad_plans day.now search.now (told_by told.now) }
+fn bad_plans(t: &Telling) -> bool
+    ensures { result ≡ bad_plans t.now.day.now t.now.search (told_by t.now.told.now) }
 {
-    bad_told(day, search, told)
-        | (search.found()
-            && bad_plan_for(day.choices(), seats(day), search.schedule(), search.plan()))
+    bad_told(t) | (t.search.found() && bad_plan_for(t.day, t.search.schedule(), t.search.plan()))
 }
 
 // 11, 13 and 18 of what a search holds and is told.
 #[tactic(auto, unfolding(crate::specs::Checks::held_number, input_data::specs::Checks::first_of))]
-fn check_held(day: &Day, search: &LentSearch, count: usize, told: &Told) -> Result<(), Refusal>
-    requires { Holding day.now (told_by told.now) }
-    ensures { outcome result ≡ held_number day.now search.now count (told_by told.now) }
+fn check_held(t: &Telling) -> Result<(), Refusal>
+    ensures { outcome result ≡ held_number t.now.day.now t.now.search (length t.now.levels.now) (told_by t.now.told.now) }
 {
-    let cached = search.cached();
-    let outside = bad_slots(day.choices(), day.slots(), search.schedule());
-    if outside | outside_cached(day, &cached) {
+    let cached = t.search.cached();
+    let outside = bad_slots(t.day.choices(), t.day.slots(), t.search.schedule());
+    if outside | outside_cached(t.day, &cached) {
         return Err(Refusal::Schedule);
     }
-    if bad_plans(day, search, told) | bad_cached(day, &cached) {
+    if bad_plans(t) | bad_cached(t.day, &cached) {
         return Err(Refusal::Plan);
     }
-    if is_spent(search, count) {
+    if is_spent(&t.search, t.levels.len()) {
         return Err(Refusal::Search);
     }
     Ok(())
 }
 
 // 2 of a told plan, which is looked at where the result is feasible.
-fn wrong_length(limits: Limits, told: &Told) -> bool
-    requires { Within limits }
-    ensures { result ≡ wrong_length limits (told_by told.now) }
+fn wrong_length(fixed: FixedLimits, told: &Told) -> bool
+    ensures { result ≡ wrong_length fixed.limits (told_by told.now) }
 {
     match told {
-        Told::Feasible(plan) => plan.len() != limits.choosers * limits.slots,
+        Told::Feasible(plan) => plan.len() != fixed.plan_length(),
         Told::Infeasible | Told::Incomplete => false,
     }
 }
@@ -142,19 +137,24 @@ fn wrong_length(limits: Limits, told: &Told) -> bool
 // The search is handed on as it is read.
 #[tactic(auto, using(input_data::specs::ReadLaws::day_refused, input_data::specs::ReadLaws::day_passed, crate::specs::Numbers::tell_passed, crate::specs::Numbers::tell_search), unfolding(crate::specs::Read::tell_read_number))]
 pub fn check_tell<'a>(
-    limits: Limits,
-    day: &Day,
+    fixed: FixedLimits,
+    day: &'a Day<'a>,
     search: &'a [u8],
-    levels: &[u32],
-    told: &Told,
-) -> Result<LentSearch<'a>, Refusal>
-    requires { Within limits }
-    ensures number { outcome result ≡ tell_read_number limits day.now search.now levels.now (told_by told.now) }
-    ensures read { IfOk result (λ s. s ≡ search_in search.now) }
+    levels: &'a [u32],
+    told: &'a Told<'a>,
+) -> Result<Telling<'a>, Refusal>
+    ensures number { outcome result ≡ tell_read_number fixed.limits day.now search.now levels.now (told_by told.now) }
+    ensures lent { IfOk result (λ t. (t.day.now ≡ day.now) × (t.levels.now ≡ levels.now) × (t.told.now ≡ told.now)) }
+    ensures read { IfOk result (λ t. t.search ≡ search_in search.now) }
 {
-    let wrong = (search.len() != 1114) | wrong_length(limits, told);
-    check_day(limits, day, beside(day, levels, wrong))?;
-    let search = LentSearch::lent(search);
-    check_held(day, &search, levels.len(), told)?;
-    Ok(search)
+    let wrong = (search.len() != 1114) | wrong_length(fixed, told);
+    check_day(fixed.limits, day, beside(day, levels, wrong))?;
+    let telling = Telling {
+        day,
+        search: LentSearch::lent(search),
+        levels,
+        told,
+    };
+    check_held(&telling)?;
+    Ok(telling)
 }

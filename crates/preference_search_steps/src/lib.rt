@@ -1,24 +1,25 @@
 // The steps of a search: the next ask, the end, what is remembered, the answer from memory.
 #![tactic(auto)]
 
-ghost use Rattle.std.specs.Prelude.{false, true, ◌≡◌, ◌<◌, ◌≤◌, length};
+mod setting;
+
+ghost use Rattle.std.specs.Prelude.{true, false, ◌+◌, ◌≡◌, ◌<◌, ◌≤◌, length};
 ghost use Rattle.preference_search.specs.Answered.{asked_by};
 ghost use Rattle.preference_search.specs.Laws.{Ranged};
 ghost use Rattle.preference_search.specs.Search.{found_at};
-ghost use Rattle.preference_search.specs.Steps.{search_answer, asked_again, begun_levels, remembered, search_with};
-ghost use Rattle.preference_search_steps.specs.Standing.{counted, next_at, over_at, search_at};
+ghost use Rattle.preference_search.specs.Steps.{search_answer, asked_again, begun_levels, next, remembered, search_with};
+ghost use Rattle.preference_search_steps.specs.Standing.{over_at, search_at};
 
 use preference_search::{
-    Asked, CachedAssignment, Known, LentCached, LentSearch, Range, Search, start_of,
+    Ask, Asked, CachedAssignment, Known, LentCached, LentSearch, Range, Search, start_of,
 };
 use scheduling::Scheduling;
+pub use setting::Setting;
 
-// Where a search stands: its setting, how many asks it has made, what is left of its range, and its schedule.
+// Where a search stands: how many asks it has made, and its schedule.
 #[derive(Clone, Copy)]
 pub struct Standing {
-    pub greedy: bool,
     pub asks: u32,
-    pub range: Range,
     pub entries: [u8; 32],
 }
 
@@ -44,92 +45,101 @@ fn remember(
 }
 
 impl Standing {
-    // Before the first ask, and without a range.
-    pub fn new(greedy: bool, entries: [u8; 32]) -> Standing
-        ensures setting { (result.greedy ≡ greedy) × (result.entries ≡ entries) }
-        ensures zeros { (result.asks ≡ 0) × (result.range.start ≡ 0) × (result.range.low ≡ 0) × (result.range.high ≡ 0) }
+    // Before the first ask.
+    pub fn new(entries: [u8; 32]) -> Standing
+        ensures { (result.asks ≡ 0) × (result.entries ≡ entries) }
     {
-        let range = Range {
-            start: 0,
-            low: 0,
-            high: 0,
-        };
-        Standing {
-            greedy,
-            asks: 0,
-            range,
-            entries,
-        }
+        Standing { asks: 0, entries }
     }
 
-    fn search(self, asking: bool, known: Known, cached: CachedAssignment) -> Search
-        ensures { result ≡ search_at asking self known cached }
+    fn search(
+        self,
+        asking: bool,
+        setting: Setting,
+        known: Known,
+        cached: CachedAssignment,
+    ) -> Search
+        ensures { result ≡ search_at asking setting self.asks self.entries known cached }
     {
-        let entries = self.entries; // the prover takes an array field into a literal by a variable only
-        let plan = known.plan;
+        let Standing { asks, entries } = self;
+        let Range { start, low, high } = setting.range();
+        let Known {
+            found,
+            level,
+            plan,
+            optimal,
+        } = known;
         Search {
             asking,
-            greedy: self.greedy,
-            found: known.found,
-            optimal: known.optimal,
-            asks: self.asks,
-            level: known.level,
-            start: self.range.start,
-            low: self.range.low,
-            high: self.range.high,
+            greedy: setting.is_greedy(),
+            found,
+            optimal,
+            asks,
+            level,
+            start,
+            low,
+            high,
             schedule: Scheduling { entries },
             plan,
             cached,
         }
     }
 
-    // An ask for the level of this index. It is counted.
-    pub fn ask(self, level: u32, index: u32, known: Known, cached: CachedAssignment) -> Asked
+    // An ask. It is counted.
+    pub fn ask(self, setting: Setting, ask: Ask, known: Known, cached: CachedAssignment) -> Asked
         requires { self.asks < u32.MAX }
-        ensures { asked_by result ≡ search_answer level index (search_at true (counted self) known cached) }
+        ensures { asked_by result ≡ search_answer ask.level ask.index (search_at true setting (self.asks + 1) self.entries known cached) }
     {
         let counted = Standing {
             asks: self.asks + 1,
             ..self
         };
         Asked {
-            level,
-            index,
-            search: counted.search(true, known, cached),
+            ask: Some(ask),
+            search: counted.search(true, setting, known, cached),
         }
     }
 
     // An end at which nothing is put in place of what is remembered.
-    pub fn rest(self, known: Known, cached: CachedAssignment) -> Asked
-        ensures { asked_by result ≡ search_answer 0 0 (search_at false self known cached) }
+    pub fn rest(self, setting: Setting, known: Known, cached: CachedAssignment) -> Asked
+        ensures { asked_by result ≡ search_answer 0 0 (search_at false setting self.asks self.entries known cached) }
     {
         Asked {
-            level: 0,
-            index: 0,
-            search: self.search(false, known, cached),
+            ask: None,
+            search: self.search(false, setting, known, cached),
         }
     }
 
     // The end of a search.
-    pub fn end(self, known: Known, cached: CachedAssignment) -> Asked
-        ensures { asked_by result ≡ over_at self known cached }
+    pub fn end(self, setting: Setting, known: Known, cached: CachedAssignment) -> Asked
+        ensures { asked_by result ≡ over_at setting self.asks self.entries known cached }
     {
-        let kept = remember(self.greedy, self.entries, known, cached);
-        self.rest(known, kept)
+        let kept = remember(setting.is_greedy(), self.entries, known, cached);
+        self.rest(setting, known, kept)
     }
 
     // The next ask of a range, or its end.
     #[tactic(auto, using(preference_search::specs::Laws::middle_most), unfolding(preference_search::specs::Steps::next))]
-    pub fn go_on(self, levels: &[u32], known: Known, cached: CachedAssignment) -> Asked
-        requires setting { self.greedy ≡ false }
-        requires inside { (self.range.high < length levels.now) × (length levels.now ≤ 256) × (self.asks ≤ 256) }
-        ensures { asked_by result ≡ next_at levels.now self known cached }
+    pub fn go_on(
+        self,
+        levels: &[u32],
+        range: Range,
+        known: Known,
+        cached: CachedAssignment,
+    ) -> Asked
+        requires { (range.high < length levels.now) × (length levels.now ≤ 256) × (self.asks ≤ 256) }
+        ensures { asked_by result ≡ next levels.now self.asks range.start range.low range.high self.entries known cached }
     {
-        if self.range.high < self.range.low {
-            return self.end(known, cached);
+        let setting = Setting::Levels(Some(range));
+        if range.high < range.low {
+            return self.end(setting, known, cached);
         }
-        let m = self.range.middle();
-        self.ask(levels[m as usize], m, known, cached)
+        let m = range.middle();
+        let ask = Ask {
+            level: levels[m as usize],
+            index: m,
+        };
+        self.ask(setting, ask, known, cached)
     }
 }
 
@@ -151,15 +161,17 @@ pub fn ask_again(
         ..search.range()
     };
     let m = range.middle();
+    let ask = Ask {
+        level: levels[m as usize],
+        index: m,
+    };
     let standing = Standing {
-        greedy: false,
         asks: search.asks(),
-        range,
         entries,
     };
     standing.ask(
-        levels[m as usize],
-        m,
+        Setting::Levels(Some(range)),
+        ask,
         search.known(mark),
         search.cached().copied(),
     )
@@ -172,7 +184,7 @@ pub fn recall(seats: usize, greedy: bool, entries: [u8; 32], cached: &LentCached
         (found_at seats 0 cached.now.plan true) cached.now) }
 {
     let known = Known::found_at(seats, 0, cached.plan(), true);
-    Standing::new(greedy, entries).rest(known, cached.copied())
+    Standing::new(entries).rest(Setting::without_range(greedy), known, cached.copied())
 }
 
 // The search over levels; without levels it ends at once.
@@ -183,9 +195,9 @@ pub fn begin_levels(levels: &[u32], bound: u32, entries: [u8; 32], cached: &Lent
 {
     let known = Known::nothing(true);
     let held = cached.copied();
-    let standing = Standing::new(false, entries);
+    let standing = Standing::new(entries);
     if levels.is_empty() {
-        return standing.rest(known, held);
+        return standing.rest(Setting::Levels(None), known, held);
     }
     let start = start_of(levels, bound) as u32;
     let range = Range {
@@ -193,5 +205,5 @@ pub fn begin_levels(levels: &[u32], bound: u32, entries: [u8; 32], cached: &Lent
         low: start,
         high: (levels.len() - 1) as u32,
     };
-    Standing { range, ..standing }.go_on(levels, known, held)
+    standing.go_on(levels, range, known, held)
 }

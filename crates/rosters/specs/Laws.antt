@@ -19,10 +19,13 @@ use Rattle.refusal.specs.declared.Refusal.{Refusal}
 use Rattle.input_data.specs.Bytes.{day_of}
 use Rattle.input_data.specs.Read.{day_read}
 use Rattle.input_data.specs.ReadLaws.{read_ok}
-use Rattle.assignment.specs.Laws.{row_end, plan_number_lem, chooser_row, exit_refused, unread, plan_read}
+use Rattle.assignment.specs.Inside.{row_end}
+use Rattle.assignment.specs.Laws.{plan_number_lem, exit_refused, unread, plan_read}
 use Rattle.rosters.specs.Calls.{short_roster, roster_answer}
 use Rattle.rosters.specs.Answered.{roster_answered}
 use Rattle.rosters.specs.Rows.{rows_of, row_of, run_of, chooser_of, roster_of, roster_number, is_outside, Rostered}
+use Rattle.rosters.specs.Filled.{filled_with, pushed, Lists}
+use Rattle.rosters.specs.declared.roster.Filled.{Filled}
 use Rattle.rosters.specs.declared.roster.Roster.{Roster}
 use Rattle.rosters.specs.declared.roster.Roster.TheVariants.{ChoosersOf, ChoicesOf}
 use Rattle.rosters.specs.declared.roster.Row.{Row}
@@ -109,6 +112,12 @@ seat_more plan r s {to = to} {d = d} p e = put_step (seat_of plan r) p (put_one 
 pub seat_skip : (plan : List ℕ) (r : Row) (s : ℕ) {at to : ℕ} {d₀ d : List ℕ} → Put (one_buffer ℕ) d₀ at (join_to s (seat_of plan r)) d to → entry_at plan (r.base + s) ≢ r.choice → Put (one_buffer ℕ) d₀ at (join_to (s + 1) (seat_of plan r)) d to
 seat_skip plan r s {to = to} {d = d} p e = put_step (seat_of plan r) p (put_no r.value d to (ne_eqb (entry_at plan (r.base + s)) r.choice e))
 
+pub seat_listed : (plan : List ℕ) (r : Row) (s : ℕ) {f g : Filled} → Lists f (join_to s (seat_of plan r)) g → entry_at plan (r.base + s) ≡ r.choice → Lists f (join_to (s + 1) (seat_of plan r)) (pushed g r.value)
+seat_listed plan r s {g = g} p e = record { put = seat_more plan r s p.put e; same = ap (λ h. filled_with h (set g.roster.now g.used r.value) (g.used + 1)) p.same }
+
+pub seat_passed : (plan : List ℕ) (r : Row) (s : ℕ) {f g : Filled} → Lists f (join_to s (seat_of plan r)) g → entry_at plan (r.base + s) ≢ r.choice → Lists f (join_to (s + 1) (seat_of plan r)) g
+seat_passed plan r s p e = record { put = seat_skip plan r s p.put e; same = p.same }
+
 -- ---- a roster
 
 -- what the i-th row adds
@@ -148,7 +157,7 @@ roster_in l d plan (ChoicesOf c) size w e =
       few = omega (arith, p.day.choices, w.choices);
       short = omega (arith, p.day.slots, w.slots);
       chooser = omega (arith, h, p.day.choosers, w.choosers);
-      inside = λ i b. (chooser_row l d plan (short_roster l size) (leb d.choosers c) c w p h).0;
+      inside = λ i b. omega (arith, row_end d.slots h, p.plan_in);
       room = omega (arith, choices_most d.choices d.slots plan c, row_end d.slots h, p.seats_in, ltb-false size (roster_length l) p.long);
     }
 

@@ -2,4 +2,5 @@
 pub mod Calls
 pub mod Answered
 pub mod Rows
+pub mod Filled
 pub mod Laws

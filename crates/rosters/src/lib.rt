@@ -8,6 +8,7 @@ ghost use Rattle.input_data.specs.Lengths.{full_day};
 ghost use Rattle.rosters.specs.Answered.{roster_answered};
 ghost use Rattle.rosters.specs.Calls.{ChoosersOrdered, ChoicesOrdered};
 
+use input_data::FixedLimits;
 use refusal::Refusal;
 use roster::{Roster, roster_within};
 
@@ -35,7 +36,6 @@ impl From<Result<usize, Refusal>> for RosterAnswer {
 
 // The choosers of a choice, each once for each slot in which it has the choice. The result is how many entries
 // the roster has.
-#[tactic(auto, using(input_data::specs::Numbers::full_within))]
 pub fn choosers_ordered(
     day: &[u8],
     plan: &[u8],
@@ -45,11 +45,10 @@ pub fn choosers_ordered(
     ensures { ChoosersOrdered full_day day.now plan.now choice roster.old roster.new (roster_answered result) }
 {
     let of = Roster::ChoosersOf(choice);
-    roster_within(input_data::full_day(), day, plan, of, roster)
+    roster_within(FixedLimits::full_day(), day, plan, of, roster)
 }
 
 // The choices of a chooser in order, each once for each slot in which the chooser has it.
-#[tactic(auto, using(input_data::specs::Numbers::full_within))]
 pub fn choices_ordered(
     day: &[u8],
     plan: &[u8],
@@ -59,5 +58,5 @@ pub fn choices_ordered(
     ensures { ChoicesOrdered full_day day.now plan.now chooser roster.old roster.new (roster_answered result) }
 {
     let of = Roster::ChoicesOf(chooser);
-    roster_within(input_data::full_day(), day, plan, of, roster)
+    roster_within(FixedLimits::full_day(), day, plan, of, roster)
 }

@@ -1,13 +1,13 @@
 // The walk that fills a roster, row after row.
 ghost use Rattle.std.specs.Prelude.{◌≡◌, ◌<◌, ◌≤◌, length};
 ghost use Rattle.counting.specs.WrittenLaws.{Put, one_buffer};
-ghost use Rattle.input_data.specs.Lengths.{Within};
+ghost use Rattle.rosters.specs.Filled.{pushed, Lists};
 ghost use Rattle.rosters.specs.Answered.{roster_answered};
 ghost use Rattle.rosters.specs.Rows.{rows_of, row_of, run_of, roster_of, is_outside, chooser_of, Rostered};
 ghost use Rattle.rosters.specs.Laws.{RowIn, RosterIn};
 
 use assignment::check_plan;
-use input_data::{Day, Limits};
+use input_data::{Day, FixedLimits};
 use refusal::Refusal;
 
 // The choosers of a choice, or the choices of a chooser.
@@ -67,19 +67,34 @@ impl Roster {
     }
 }
 
-#[tactic(auto, using(crate::specs::Laws::seat_room, crate::specs::Laws::seat_more, crate::specs::Laws::seat_skip, counting::specs::WrittenLaws::put_start, counting::specs::WrittenLaws::put_all), unfolding(assignment::specs::Plan::row))]
-fn put_row(slots: usize, plan: &[u8], row: Row, roster: &mut [u8], at: usize) -> usize
-    requires { RowIn slots plan.now row at (length roster.old) }
-    ensures { Put (one_buffer _) roster.old at (run_of slots plan.now row) roster.new result }
+// A lent roster, and how much of its front is filled.
+#[derive(Drop)]
+struct Filled<'a> {
+    roster: &'a mut [u8],
+    used: usize,
+}
+
+impl<'a> Filled<'a> {
+    // Lists a value after those that are there.
+    fn push(&mut self, value: u8)
+        requires { self.old.used < length self.old.roster.now }
+        ensures { self.new ≡ pushed self.old value }
+    {
+        self.roster[self.used] = value;
+        self.used += 1;
+    }
+}
+
+#[tactic(auto, using(crate::specs::Laws::seat_room, crate::specs::Laws::seat_more, crate::specs::Laws::seat_skip, counting::specs::WrittenLaws::put_all), unfolding(assignment::specs::Plan::row))]
+fn put_row(slots: usize, plan: &[u8], row: Row, filled: &mut Filled)
+    requires { RowIn slots plan.now row filled.old.used (length filled.old.roster.now) }
+    ensures { Lists filled.old (run_of slots plan.now row) filled.new }
 {
-    let mut to = at;
     for s in 0..slots {
         if plan[row.base + s] as usize == row.choice {
-            roster[to] = row.value;
-            to += 1;
+            filled.push(row.value);
         }
     }
-    to
 }
 
 #[tactic(auto, using(crate::specs::Laws::row_in))]
@@ -88,26 +103,25 @@ fn put_rows(day: &Day, plan: &[u8], of: Roster, roster: &mut [u8]) -> usize
     ensures { Put (one_buffer _) roster.old 0 (roster_of of day.now plan.now) roster.new result }
 {
     let slots = day.slots();
-    let mut at = 0;
+    let mut filled = Filled { roster, used: 0 };
     for i in 0..of.rows(day) {
-        at = put_row(slots, plan, of.row(slots, i), roster, at);
+        put_row(slots, plan, of.row(slots, i), &mut filled);
     }
-    at
+    filled.used
 }
 
 #[tactic(auto, using(crate::specs::Laws::roster_in))]
 pub fn roster_within(
-    limits: Limits,
+    fixed: FixedLimits,
     day: &[u8],
     plan: &[u8],
     of: Roster,
     roster: &mut [u8],
 ) -> Result<usize, Refusal>
-    requires { Within limits }
-    ensures { Rostered limits day.now plan.now of roster.old roster.new (roster_answered result) }
+    ensures { Rostered fixed.limits day.now plan.now of roster.old roster.new (roster_answered result) }
 {
     let day = Day::read(day)?;
-    let short = roster.len() < limits.choosers * limits.slots;
-    check_plan(limits, &day, plan, short, of.is_outside(&day))?;
+    let short = roster.len() < fixed.plan_length();
+    check_plan(fixed, &day, plan, short, of.is_outside(&day))?;
     Ok(put_rows(&day, plan, of, roster))
 }

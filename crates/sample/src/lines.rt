@@ -5,16 +5,16 @@ use score::Score;
 use std::cmp::Ordering;
 use std::fmt;
 
-// What a call's number means.
+// Whether a call is accepted, or the number of its refusal.
 #[derive(Clone, Copy)]
-pub(crate) struct Outcome(pub(crate) u32);
+pub(crate) struct Outcome<'a, T>(pub(crate) &'a Result<T, Refusal>);
 
-impl fmt::Display for Outcome {
+impl<'a, T> fmt::Display for Outcome<'a, T> {
     fn fmt<W: fmt::Write>(&self, f: &mut fmt::Formatter<W>) -> fmt::Result {
-        if self.0 == 0 {
-            return write!(f, "accepted");
+        match self.0 {
+            Ok(_) => write!(f, "accepted"),
+            Err(refusal) => write!(f, "refused by {}", u32::from(*refusal)),
         }
-        write!(f, "refused by {}", self.0)
     }
 }
 

@@ -16,7 +16,7 @@ mod states;
 fn rows_of_day(rt: &HostRuntime, day: &[u8; 2044]) -> io::Result<()> {
     let first = schedule_of(0, 0, 1);
     states::rows_of_build(rt, "choices 0, 1, 2 in slots 0, 0, 1", day, &first)?;
-    models::rows_of_model(rt, "model at limit 1", day, false)?;
+    models::rows_of_model(rt, "model at limit 1", day)?;
     models::rows_of_values(rt, day)?;
     let mut plan = [0; 512];
     models::row_of_edge_six(rt, day, 3, &mut plan)?;
@@ -27,7 +27,7 @@ fn rows_of_day(rt: &HostRuntime, day: &[u8; 2044]) -> io::Result<()> {
 fn rows_of_change(rt: &HostRuntime, day: &[u8; 2044]) -> io::Result<()> {
     let tied = day_of(2, 2, 1);
     let moved = schedule_of(1, 0, 1);
-    models::rows_of_model(rt, "with ChoosersHaveSameChoices of 0 and 1", &tied, true)?;
+    models::rows_of_tied_model(rt, "with ChoosersHaveSameChoices of 0 and 1", &tied)?;
     states::rows_of_update(rt, "choice 0 moved to slot 1", day, &moved)?;
     states::rows_of_build(rt, "that schedule afresh", day, &moved)?;
     states::row_of_refusal(rt, day)?;

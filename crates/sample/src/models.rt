@@ -2,7 +2,8 @@
 use crate::layouts::schedule_of;
 use crate::lines::{Listed, Outcome, Printed, Verdict};
 use crate::states::built;
-use model_buffers::{LentBuffers, LentInput, ModelAnswer};
+use model_buffers::{Counts, LentBuffers, LentInput};
+use refusal::Refusal;
 use scoring::{Scoring, Solution};
 use std::io;
 
@@ -39,6 +40,22 @@ impl Buffers {
     }
 }
 
+// These buffers, lent to a call.
+macro_rules! lent {
+    ($b:ident) => {
+        LentBuffers {
+            supplies: &mut $b.supplies,
+            from: &mut $b.from,
+            to: &mut $b.to,
+            max: &mut $b.max,
+            cost: &mut $b.cost,
+            entries: &mut $b.entries,
+            ends: &mut $b.ends,
+            blocked: &mut $b.blocked,
+        }
+    };
+}
+
 // What a call is lent beside the day and the state, at limit 1.
 fn input(lists: &[u8]) -> LentInput<'_> {
     LentInput {
@@ -71,68 +88,56 @@ fn rows_of_edges(rt: &HostRuntime, count: usize, b: &Buffers) -> io::Result<()> 
 }
 
 // Each group in braces: its entries go from the last group's end to its own.
-fn rows_of_groups(rt: &HostRuntime, model: ModelAnswer, b: &Buffers) -> io::Result<()> {
+fn rows_of_groups(rt: &HostRuntime, counts: Counts, b: &Buffers) -> io::Result<()> {
     print!(rt; "groups")?;
     let mut start = 0;
-    for end in b.ends.iter().take(model.groups) {
+    for end in b.ends.iter().take(counts.groups) {
         let end = *end as usize;
         let group = Listed(b.entries.get(start..end).unwrap_or(&[]));
         print!(rt; " {{{group} }}")?;
         start = end;
     }
-    let blocked = Listed(&b.blocked[..model.blocked.min(4096)]);
+    let blocked = Listed(&b.blocked[..counts.blocked.min(4096)]);
     println!(rt; "\nblocked{blocked}")
 }
 
-// The model at limit 1: its supplies and edges, or its groups and blocked edges.
-pub(crate) fn rows_of_model(
-    rt: &HostRuntime,
-    text: &str,
-    day: &[u8; 2044],
-    grouped: bool,
-) -> io::Result<()> {
+// The model at limit 1, as it stands in its buffers.
+fn model(day: &[u8; 2044], b: &mut Buffers) -> Result<Counts, Refusal> {
     let mut lists = [0; 256];
-    let state = built(day, &mut lists);
-    let mut b = Buffers::new();
-    let mut lent = LentBuffers {
-        supplies: &mut b.supplies,
-        from: &mut b.from,
-        to: &mut b.to,
-        max: &mut b.max,
-        cost: &mut b.cost,
-        entries: &mut b.entries,
-        ends: &mut b.ends,
-        blocked: &mut b.blocked,
-    };
-    let built = solve_with_limit::build_model(day, &state, &input(&lists), &mut lent);
-    let model = ModelAnswer::from(built);
-    println!(rt; "{text}: {}", Outcome(model.number))?;
-    if grouped {
-        return rows_of_groups(rt, model, &b);
-    }
-    // A node for each chooser in each slot, each choice and each slot: 9.
-    println!(rt; "supplies{}", Listed(&b.supplies[..9]))?;
-    rows_of_edges(rt, model.edges, &b)
+    let state = built(day, &mut lists)?;
+    solve_with_limit::build_model(day, &state, &input(&lists), &mut lent!(b))
 }
 
-// The number that these values get at limit 1, and the plan that they decode to.
-fn checked(day: &[u8; 2044], values: &[i32; 2080], plan: &mut [u8; 512]) -> u32 {
-    let mut lists = [0; 256];
-    let state = built(day, &mut lists);
+// Its supplies and edges.
+pub(crate) fn rows_of_model(rt: &HostRuntime, text: &str, day: &[u8; 2044]) -> io::Result<()> {
     let mut b = Buffers::new();
-    let mut lent = LentBuffers {
-        supplies: &mut b.supplies,
-        from: &mut b.from,
-        to: &mut b.to,
-        max: &mut b.max,
-        cost: &mut b.cost,
-        entries: &mut b.entries,
-        ends: &mut b.ends,
-        blocked: &mut b.blocked,
-    };
-    let input = input(&lists);
-    let checked = solve_with_limit::check_values(day, &state, &input, values, &mut lent, plan);
-    ModelAnswer::from(checked).number
+    let made = model(day, &mut b);
+    println!(rt; "{text}: {}", Outcome(&made))?;
+    let Ok(counts) = made else { return Ok(()) };
+    // A node for each chooser in each slot, each choice and each slot: 9.
+    println!(rt; "supplies{}", Listed(&b.supplies[..9]))?;
+    rows_of_edges(rt, counts.edges, &b)
+}
+
+// Its groups and blocked edges.
+pub(crate) fn rows_of_tied_model(rt: &HostRuntime, text: &str, day: &[u8; 2044]) -> io::Result<()> {
+    let mut b = Buffers::new();
+    let made = model(day, &mut b);
+    println!(rt; "{text}: {}", Outcome(&made))?;
+    let Ok(counts) = made else { return Ok(()) };
+    rows_of_groups(rt, counts, &b)
+}
+
+// Whether these values are accepted at limit 1; then the plan that they decode to is put.
+fn checked(
+    day: &[u8; 2044],
+    values: &[i32; 2080],
+    plan: &mut [u8; 512],
+) -> Result<Counts, Refusal> {
+    let mut lists = [0; 256];
+    let state = built(day, &mut lists)?;
+    let mut b = Buffers::new();
+    solve_with_limit::check_values(day, &state, &input(&lists), values, &mut lent!(b), plan)
 }
 
 fn row_of_score(
@@ -183,8 +188,8 @@ pub(crate) fn row_of_edge_six(
     plan: &mut [u8; 512],
 ) -> io::Result<()> {
     let values = values(value);
-    let outcome = Outcome(checked(day, &values, plan));
-    println!(rt; "values{}: {outcome}", Listed(&values[..8]))
+    let outcome = checked(day, &values, plan);
+    println!(rt; "values{}: {}", Listed(&values[..8]), Outcome(&outcome))
 }
 
 // Values that are accepted, and what can be said of their plan.

@@ -15,17 +15,17 @@ fn answer_at(level: u32, plan: &[u8]) -> Told<'_> {
 
 // Tells a search the answer to its ask. One that has ended, or is refused, stays as it is.
 fn step(rt: &HostRuntime, asked: Asked) -> io::Result<Asked> {
-    if !asked.search.asking {
+    let Some(ask) = asked.ask else {
         return Ok(asked);
-    }
-    print!(rt; " {}", asked.level)?;
+    };
+    print!(rt; " {}", ask.level)?;
     let day = day_of(2, 4, 0);
     let bytes = search_bytes(asked.search);
     let mut plan = [0; 512];
     plan[0] = 1;
     plan[1] = 2;
     plan[3] = 2;
-    let told = answer_at(asked.level, &plan);
+    let told = answer_at(ask.level, &plan);
     match assignment_solver::tell(&day, &bytes, &LEVELS, told) {
         Ok(next) => Ok(next),
         Err(refusal) => {

@@ -1,11 +1,12 @@
 // The rows on schedule states.
 use crate::layouts::{day_of, schedule_of, state_bytes};
 use crate::lines::{Listed, Outcome};
-use schedule_state::StateAnswer;
+use refusal::Refusal;
+use schedule_state::{AssignmentScheduleState, StateAnswer};
 use std::io;
 
-fn row_of_covered(rt: &HostRuntime, answer: StateAnswer) -> io::Result<()> {
-    let covered = answer.state.covered;
+fn row_of_covered(rt: &HostRuntime, state: AssignmentScheduleState) -> io::Result<()> {
+    let covered = state.covered;
     println!(rt; "covered {} {}", covered[0], covered[1])
 }
 
@@ -19,26 +20,24 @@ fn row_of_list(
 ) -> io::Result<()> {
     match schedule_updates::slot_list(day, state, lists, slot) {
         Ok(list) => println!(rt; "slot {slot}: choices{}", Listed(list)),
-        Err(refusal) => println!(rt; "slot {slot}: {}", Outcome(u32::from(refusal))),
+        Err(refusal) => println!(rt; "slot {slot}: refused: {refusal}"),
     }
 }
 
-// A state that a call gave, with its slot lists.
+// What a call made of a state, with its slot lists.
 fn rows_of_state(
     rt: &HostRuntime,
+    text: &str,
     day: &[u8; 2044],
-    answer: StateAnswer,
+    made: Result<AssignmentScheduleState, Refusal>,
     lists: &[u8; 256],
 ) -> io::Result<()> {
-    let state = state_bytes(answer.state);
-    row_of_covered(rt, answer)?;
-    row_of_list(rt, day, &state, lists, 0)?;
-    row_of_list(rt, day, &state, lists, 1)
-}
-
-// A fresh build, as C is given it: a number, and zeros beside a refusal.
-fn answer_of_build(day: &[u8; 2044], schedule: &[u8; 32], lists: &mut [u8]) -> StateAnswer {
-    schedule_updates::build(day, schedule, lists).into()
+    println!(rt; "{text}: {}", Outcome(&made))?;
+    let Ok(state) = made else { return Ok(()) };
+    let bytes = state_bytes(state);
+    row_of_covered(rt, state)?;
+    row_of_list(rt, day, &bytes, lists, 0)?;
+    row_of_list(rt, day, &bytes, lists, 1)
 }
 
 pub(crate) fn rows_of_build(
@@ -48,19 +47,26 @@ pub(crate) fn rows_of_build(
     schedule: &[u8; 32],
 ) -> io::Result<()> {
     let mut lists = [0; 256];
-    let answer = answer_of_build(day, schedule, &mut lists);
-    println!(rt; "{text}: {}", Outcome(answer.number))?;
-    rows_of_state(rt, day, answer, &lists)
+    let made = schedule_updates::build(day, schedule, &mut lists);
+    rows_of_state(rt, text, day, made, &lists)
 }
 
 // The state of choices 0, 1, 2 in slots 0, 0, 1, as it is lent on, and its slot lists.
-pub(crate) fn built(day: &[u8; 2044], lists: &mut [u8]) -> [u8; 2112] {
-    let schedule = schedule_of(0, 0, 1);
-    let answer = answer_of_build(day, &schedule, lists);
-    state_bytes(answer.state)
+pub(crate) fn built(day: &[u8; 2044], lists: &mut [u8]) -> Result<[u8; 2112], Refusal> {
+    let state = schedule_updates::build(day, &schedule_of(0, 0, 1), lists)?;
+    Ok(state_bytes(state))
 }
 
 // That state, carried on to another schedule.
+fn updated(
+    day: &[u8; 2044],
+    schedule: &[u8; 32],
+    lists: &mut [u8],
+) -> Result<AssignmentScheduleState, Refusal> {
+    let state = built(day, lists)?;
+    schedule_updates::update(day, &state, schedule, lists)
+}
+
 pub(crate) fn rows_of_update(
     rt: &HostRuntime,
     text: &str,
@@ -68,20 +74,19 @@ pub(crate) fn rows_of_update(
     schedule: &[u8; 32],
 ) -> io::Result<()> {
     let mut lists = [0; 256];
-    let state = built(day, &mut lists);
-    let answer = StateAnswer::from(schedule_updates::update(day, &state, schedule, &mut lists));
-    println!(rt; "{text}: {}", Outcome(answer.number))?;
-    rows_of_state(rt, day, answer, &lists)
+    let made = updated(day, schedule, &mut lists);
+    rows_of_state(rt, text, day, made, &lists)
 }
 
-// A refused call gives its number, and zeros beside it.
+// A refused call gives its number, and C zeros beside it.
 pub(crate) fn row_of_refusal(rt: &HostRuntime, day: &[u8; 2044]) -> io::Result<()> {
-    let schedule = schedule_of(0, 0, 2);
     let mut lists = [0; 256];
-    let answer = answer_of_build(day, &schedule, &mut lists);
-    let outcome = Outcome(answer.number);
-    print!(rt; "choice 2 in slot 2, which the day has not: {outcome}, ")?;
-    row_of_covered(rt, answer)
+    let made = schedule_updates::build(day, &schedule_of(0, 0, 2), &mut lists);
+    print!(rt;
+        "choice 2 in slot 2, which the day has not: {}, ",
+        Outcome(&made)
+    )?;
+    row_of_covered(rt, StateAnswer::from(made).state)
 }
 
 // Whether a build takes a day of so many choosers and this max_preference.
@@ -92,10 +97,9 @@ fn row_of_limit(
     max_preference: u32,
 ) -> io::Result<()> {
     let day = day_of(choosers, max_preference, 0);
-    let schedule = schedule_of(0, 0, 1);
     let mut lists = [0; 256];
-    let answer = answer_of_build(&day, &schedule, &mut lists);
-    println!(rt; "{text}: {}", Outcome(answer.number))
+    let made = schedule_updates::build(&day, &schedule_of(0, 0, 1), &mut lists);
+    println!(rt; "{text}: {}", Outcome(&made))
 }
 
 pub(crate) fn rows_of_limits(rt: &HostRuntime) -> io::Result<()> {

@@ -8,6 +8,7 @@ ghost use Rattle.satisfies_constraints.specs.ByNumber.{size_by_number, meets_sch
 ghost use Rattle.satisfies_constraints.specs.Laws.{ScheduleRead};
 
 use input_data::{ConstraintNumbers, Day};
+use scheduling::slot_in;
 
 // The entry of a choice, or none.
 pub fn entry_of(entries: &[u8; 32], k: usize) -> u8
@@ -21,7 +22,7 @@ pub fn entry_of(entries: &[u8; 32], k: usize) -> u8
 fn names(entry: u8, slot: usize) -> bool
     ensures { result ≡ eqb entry (suc slot) }
 {
-    scheduling::slot_in(entry) == Some(slot)
+    slot_in(entry) == Some(slot)
 }
 
 fn are_apart(a: u8, b: u8) -> bool
@@ -31,18 +32,15 @@ fn are_apart(a: u8, b: u8) -> bool
 }
 
 // Right slot minus left slot is the offset, or neither has a slot.
-#[tactic(auto, using(crate::specs::Laws::offset_none, crate::specs::Laws::offset_one, crate::specs::Laws::offset_two, counting::specs::Signed::back))]
+#[tactic(auto, using(counting::specs::Signed::back, scheduling::specs::ScheduleLaws::slot_entry), unfolding(crate::specs::Constraints::has_offset))]
 fn has_offset(left: u8, right: u8, offset: i32) -> bool
     ensures { result ≡ has_offset left right offset }
 {
-    if left == 0 {
-        return right == 0;
+    match (slot_in(left), slot_in(right)) {
+        (Some(l), Some(r)) => r as i32 - l as i32 == offset,
+        (None, None) => true,
+        _ => false,
     }
-    if right == 0 {
-        return false;
-    }
-    let distance = counting::difference((right - 1) as u32, (left - 1) as u32);
-    counting::same(distance, offset)
 }
 
 // A count against a limit, by the operator's number.
@@ -60,25 +58,13 @@ fn has_size(op: i32, count: usize, limit: usize) -> bool
     }
 }
 
-// How many of the first entries are `want`. All is in bytes, so that the walk is quick.
-#[tactic(auto, using(counting::specs::FoldLaws::fold_none, counting::specs::FoldLaws::fold_more))]
-fn count_entries(choices: usize, entries: &[u8; 32], want: u8) -> u8
-    requires { choices ≤ 32 }
-    ensures { (result ≡ count_to choices (is_of (entry_at entries.now) want)) × (result ≤ 32) }
-{
-    let mut size = 0;
-    for k in 0..choices {
-        size += u8::from(entries[k] == want);
-    }
-    size
-}
-
 // How many choices a slot has.
 fn size_of(choices: usize, entries: &[u8; 32], slot: usize) -> usize
     requires { (choices ≤ 32) × (slot < 255) }
     ensures { result ≡ size_of choices entries.now slot }
 {
-    count_entries(choices, entries, slot as u8 + 1) as usize
+    let want = slot as u8 + 1;
+    counting::count_below(choices, |k| entries[k] == want) as usize
 }
 
 // The test of one constraint, by its kind's number.

@@ -1,5 +1,5 @@
 -- What the calls build, update and slot list give and leave: SPEC 3.2, 3.21, 3.24, 5.4 to 5.11, 5.15. Definitions only.
-use Rattle.std.specs.Prelude.{ℕ, ◌+◌, ◌*◌, ◌≡◌, Bool, false, cond, not, ◌&&◌, ◌||◌, List, eqb, ltb, leb, length, take, drop}
+use Rattle.std.specs.Prelude.{ℕ, ◌*◌, ◌≡◌, Bool, false, cond, not, ◌&&◌, ◌||◌, List, eqb, ltb, leb, length, take, drop}
 use Rattle.std.specs.Borrow.{Bor}
 use Rattle.input_data.specs.Bytes.{day_of, lent_number}
 use Rattle.input_data.specs.Checks.{first_of, day_number}
@@ -10,6 +10,7 @@ use Rattle.input_data.specs.declared.checks.Beside.{Beside}
 use Rattle.scheduling.specs.Handed.{schedule_of, not_schedule, outside, kept_of}
 use Rattle.scheduling.specs.Schedule.{entry_at}
 use Rattle.scheduling.specs.declared.Scheduling.{Scheduling}
+use Rattle.slot_lists.specs.Parts.{PartOf}
 use Rattle.slot_lists.specs.Sums.{one, weighed}
 use Rattle.slot_lists.specs.Walk.{built, carried}
 use Rattle.schedule_state.specs.Bytes.{not_state, state_in}
@@ -119,12 +120,6 @@ list_found l d st slot = record { number = 0; start = l.choices * slot; length =
 
 unfoldable pub slot_list_answer : Limits → List ℕ → List ℕ → ℕ → List ℕ → SlotListAnswer
 slot_list_answer l day st slot bytes = cond (eqb (slot_list_lent l day st slot bytes) 0) (list_found l (day_of day) (state_in st) slot) (list_refused (slot_list_lent l day st slot bytes))
-
--- r is the part of a lent slice that starts at `at` and holds `bytes`
-pub record PartOf (x : Bor (List ℕ)) (at : ℕ) (bytes : List ℕ) (r : Bor (List ℕ)) : Type 0 where
-  pub block : r.ref_ptr.0 ≡ x.ref_ptr.0
-  pub start : r.ref_ptr.1 ≡ x.ref_ptr.1 + at
-  pub holds : r.now ≡ bytes
 
 -- n elements of a lent slice from `at` on
 abbrev pub PartAt : Bor (List ℕ) → ℕ → ℕ → Bor (List ℕ) → Type 0

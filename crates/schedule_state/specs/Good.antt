@@ -1,5 +1,6 @@
 -- What accepted input gives the inner functions.
-use Rattle.std.specs.Prelude.{ℕ, suc, ◌+◌, ◌-◌, ◌*◌, ◌<◌, ◌≤◌, ◌≡◌, Bool, ◌≢◌, List, eqb, get_or}
+use Rattle.std.specs.Prelude.{ℕ, suc, ◌+◌, ◌*◌, ◌<◌, ◌≤◌, ◌≡◌, Bool, List, eqb, get_or, length}
+use Rattle.std.specs.Borrow.{Bor}
 use Rattle.std.specs.Prelude.{Result, IfOk}
 use Rattle.std.proofs.Math.Path.{ap}
 use Rattle.refusal.specs.Number.{outcome}
@@ -39,7 +40,6 @@ pub record Ready (l : Limits) (d : InputData) (size : ℕ) : Type 0 where
 
 -- what a call tests beside the day says of the lengths of the state and of the slot lists
 pub record Handed (l : Limits) (b : Beside) (st : List ℕ) (size : ℕ) : Type 0 where
-  pub within : Within l
   pub state : b.bad_lengths ≡ false → IsState st
   pub room : b.bad_lengths ≡ false → lists_length l ≤ size
 
@@ -91,9 +91,6 @@ module _ {l : Limits} {d : InputData} {size : ℕ} (r : Ready l d size) where
     pub kept_names : Names d (kept_of d sch)
     kept_names = record { fits = kept_fits }
 
-    pub weighs : (w : List ℕ) → ((k : ℕ) → k < d.choices → entry_at w k ≤ 1000) → Weighs (kept_of d sch) w d.choices
-    weighs w light = record { count = choices_most; small = λ k h. omega (arith, kept_fits k h, slots_most); light = light }
-
   pub min_most : (k : ℕ) → k < d.choices → entry_at d.mins k ≤ 1000
   min_most k h = omega (arith, r.day.min_max k h, r.day.max_most k h)
 
@@ -101,8 +98,8 @@ module _ {l : Limits} {d : InputData} {size : ℕ} (r : Ready l d size) where
   pub weighs_of : {sch : List ℕ} → Names d sch → Weighs sch d.mins d.choices
   weighs_of f = record { count = choices_most; small = λ k b. omega (arith, f.fits k b, slots_most); light = min_most }
 
-  pub part_of : {sch : List ℕ} → Names d sch → (k : ℕ) → k < d.choices → entry_at sch k ≢ 0 → l.choices * (entry_at sch k - 1) + l.choices ≤ size
-  part_of {sch = sch} f k h e = part_in (entry_at sch k - 1) (omega (arith, f.fits k h))
+  pub part_of : {sch : List ℕ} → Names d sch → (k s : ℕ) → k < d.choices → entry_at sch k ≡ suc s → l.choices * s + l.choices ≤ size
+  part_of f k s h e = part_in s (omega (arith, f.fits k h))
 
   pub small_day : Small d
   small_day = record { choosers = choosers_most; choices = choices_most; blocking = blocking }
@@ -117,13 +114,13 @@ pub record Holdable (l : Limits) (d : InputData) (st : AssignmentScheduleState) 
   pub sums : AreSums (min_at d) (entry_at entries) d.choices s
 
 module _ {l : Limits} {d : InputData} {st : AssignmentScheduleState} {entries : List ℕ} {s : SlotSums} {size : ℕ} (h : Holdable l d st entries s size) where
-  pub looks : Looks l.choices d.choices d.slots entries size s.lens
-  looks = record {
+  pub looks : {x : Bor (List ℕ)} → size ≡ length x.now → Looks d.choices d.slots entries (record { bytes = x; stride = l.choices; lens = s.lens })
+  looks e = record {
     count = choices_most h.ready;
     few = slots_most h.ready;
     room = h.ready.day.choices;
     fits = h.names.fits;
-    part = part_in h.ready;
+    part = rw e at (part_in h.ready);
     lens = h.sums.lens;
   }
 
@@ -162,12 +159,3 @@ unfolding misblocked
 nowhere_unlike a b choosers choices hc hk e =
     each_none choosers (misblocked_row (cells_of b) choices a) (λ c x. each_none choices (misblocked_at (cells_of b) a c)
     (λ k y. none_each 2048 (unlike_at a b) e (cell c k) (cell_in c k (omega arith) (omega arith))))
-
--- ---- carrying a state
-
--- two schedules, by their entries, that name the day's slots alone, and the sums of the first
-pub record Carriable (l : Limits) (d : InputData) (last next : List ℕ) (size : ℕ) (s : SlotSums) : Type 0 where
-  pub ready : Ready l d size
-  pub from : Names d last
-  pub to : Names d next
-  pub sums : AreSums (min_at d) (entry_at last) d.choices s

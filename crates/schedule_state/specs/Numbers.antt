@@ -76,14 +76,14 @@ pub record Passed (l : Limits) (d : InputData) (st : AssignmentScheduleState) (s
   pub ready : Ready l d size
   pub names : Names d (kept_of d st.schedule)
 
-module _ (l : Limits) (d : InputData) (b : Beside) (p : 0 ≡ day_number l d b 0) {state : List ℕ} {size : ℕ} (h : Handed l b state size) where
+module _ (l : Limits) (d : InputData) (b : Beside) (p : 0 ≡ day_number l d b 0) {state : List ℕ} {size : ℕ} (within : Within l) (h : Handed l b state size) where
   pub handed_state : IsState state
   handed_state = h.state (past l d b 0 (sym p)).lengths
 
   pub passed : (st : AssignmentScheduleState) (also : Bool) → (also || outside d st.schedule) ≡ false → Passed l d st size
   passed st also t =
       let s : (also ≡ false) × (outside d st.schedule ≡ false) = or_split t in
-      let r : Ready l d size = record { within = h.within; day = accepted l d b 0 h.within (sym p); room = h.room (past l d b 0 (sym p)).lengths } in
+      let r : Ready l d size = record { within = within; day = accepted l d b 0 within (sym p); room = h.room (past l d b 0 (sym p)).lengths } in
       record { ready = r; names = kept_names r st.schedule s.1 }
 
 module _ (l : Limits) (d : InputData) (st : AssignmentScheduleState) (b : Beside) (also : Bool) (bytes : List ℕ) where

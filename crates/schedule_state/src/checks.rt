@@ -7,8 +7,8 @@ ghost use Rattle.schedule_state.specs.Good.{Small, Holdable};
 use crate::state::LentState;
 use blocks::fill_blocks;
 use counting::any_below;
-use input_data::{Day, Limits};
-use slot_lists::{SlotSums, is_misheld};
+use input_data::{Day, FixedLimits};
+use slot_lists::{SlotLists, SlotSums, is_misheld};
 
 // Whether a state's blocks are not those of a table for a chooser, in the day's choices.
 fn row_differs(state: &LentState, right: &[bool; 2048], chooser: usize, choices: usize) -> bool
@@ -69,19 +69,23 @@ fn sums_differ(state: &LentState, right: &[u32; 8], slots: usize) -> bool
 // 12: what a state says is held against its own schedule, by its entries and their sums.
 #[tactic(auto, using(crate::specs::Good::small_day, crate::specs::Good::looks, crate::specs::Good::inconsistent_is))]
 pub fn is_inconsistent(
-    limits: Limits,
+    fixed: FixedLimits,
     day: &Day,
     state: &LentState,
     entries: &[u8; 32],
     sums: &SlotSums,
     lists: &[u8],
 ) -> bool
-    requires { Holdable limits day.now state.now entries.now sums.now (length lists.now) }
-    ensures { result ≡ inconsistent limits day.now state.now lists.now }
+    requires { Holdable fixed.limits day.now state.now entries.now sums.now (length lists.now) }
+    ensures { result ≡ inconsistent fixed.limits day.now state.now lists.now }
 {
-    let n = day.choices();
+    let lists = SlotLists {
+        bytes: lists,
+        stride: fixed.limits.choices,
+        lens: sums.lens,
+    };
     let slots = day.slots();
-    is_misheld(lists, &sums.lens, entries, limits.choices, slots, n)
+    is_misheld(&lists, entries, slots, day.choices())
         | sums_differ(state, &sums.covered, slots)
         | is_misblocked(day, state, entries)
 }

@@ -34,27 +34,34 @@ impl<'a> LentState<'a> {
         LentState { bytes }
     }
 
+    // The entries of its schedule.
     #[tactic(auto, using(crate::specs::BytesLaws::schedule_long))]
+    fn entries(&self) -> &'a [u8; 32]
+        ensures { result.now ≡ self.now.schedule.entries }
+    {
+        self.bytes[..32].as_array().unwrap()
+    }
+
     pub fn schedule(&self) -> Scheduling
         ensures { result ≡ self.now.schedule }
     {
-        let mut entries = [0; 32];
-        entries.copy_from_slice(&self.bytes[..32]);
-        Scheduling { entries }
+        Scheduling {
+            entries: *self.entries(),
+        }
     }
 
     // Whether its schedule names a slot that the day has not.
     pub fn names_outside(&self, day: &Day) -> bool
         ensures { result ≡ outside day.now self.now.schedule }
     {
-        bad_slots(day.choices(), day.slots(), &self.schedule().entries)
+        bad_slots(day.choices(), day.slots(), self.entries())
     }
 
     // Its schedule's entries, none past the day's choices.
     pub fn kept(&self, day: &Day) -> [u8; 32]
         ensures { result ≡ kept_of day.now self.now.schedule }
     {
-        kept(day.choices(), &self.schedule().entries)
+        kept(day.choices(), self.entries())
     }
 
     pub fn covered(&self, slot: usize) -> u32

@@ -1,6 +1,5 @@
 -- What build and update test, and what moves from one schedule to the next. Definitions only.
-use Rattle.std.specs.Prelude.{ℕ, ◌≡◌, false, ◌||◌, List, Result, length}
-use Rattle.refusal.specs.declared.Refusal.{Refusal}
+use Rattle.std.specs.Prelude.{ℕ, ◌≡◌, false, ◌||◌, List, length}
 use Rattle.input_data.specs.Bytes.{wider}
 use Rattle.input_data.specs.Checks.{first_of, day_number}
 use Rattle.input_data.specs.declared.InputData.{InputData}
@@ -9,11 +8,9 @@ use Rattle.scheduling.specs.Handed.{not_schedule}
 use Rattle.scheduling.specs.Schedule.{entry_at}
 use Rattle.schedule_state.specs.Bytes.{not_state, state_in}
 use Rattle.schedule_state.specs.Calls.{beside_lists, state_number, names_outside}
-use Rattle.schedule_state.specs.Good.{Found}
 use Rattle.schedule_state.specs.State.{state_of}
 use Rattle.schedule_state.specs.declared.AssignmentScheduleState.{AssignmentScheduleState}
 use Rattle.slot_lists.specs.Walk.{carried}
-use Rattle.slot_lists.specs.declared.SlotSums.{SlotSums}
 use Rattle.input_data.specs.declared.checks.Beside.{Beside}
 
 -- the state of the next schedule, and the lists by the walk
@@ -30,7 +27,3 @@ update_beside l st sch bytes = wider (not_state st || not_schedule sch) (beside_
 
 abbrev pub update_tested : Limits → InputData → List ℕ → List ℕ → List ℕ → ℕ
 update_tested l d st sch bytes = state_number l d (state_in st) (update_beside l st sch bytes) (names_outside d sch) bytes
-
--- .. with the sums of the state's schedule
-abbrev pub UpdateFound : Limits → InputData → List ℕ → List ℕ → List ℕ → Result SlotSums Refusal → Type 0
-UpdateFound l d st sch bytes r = Found l d (state_in st) (update_beside l st sch bytes) (names_outside d sch) bytes r

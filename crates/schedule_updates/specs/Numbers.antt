@@ -12,15 +12,17 @@ use Rattle.refusal.specs.declared.Refusal.{Refusal}
 use Rattle.counting.specs.Sums.{count_le}
 use Rattle.counting.specs.Tests.{or_split, eq_cases, lt_cases}
 use Rattle.scheduling.specs.Handed.{schedule_of, not_schedule, outside, kept_of}
-use Rattle.scheduling.specs.HandedLaws.{schedule_long}
-use Rattle.scheduling.specs.Schedule.{entry_at, kept}
+use Rattle.scheduling.specs.HandedLaws.{lengths_right}
+use Rattle.scheduling.specs.Schedule.{entry_at, bad_slots, kept}
 use Rattle.scheduling.specs.declared.Scheduling.{Scheduling}
 use Rattle.slot_lists.specs.SumsLaws.{AreSums, sums_table, nowhere_summed}
 use Rattle.slot_lists.specs.Sums.{in_slot, nowhere, no_sums}
-use Rattle.slot_lists.specs.WalkLaws.{ListsCarried}
+use Rattle.carried_lists.specs.Carried.{ListsCarried}
+use Rattle.carried_lists.specs.CarriedLaws.{Carries}
+use Rattle.carried_lists.specs.declared.CarriedLists.{CarriedLists}
 use Rattle.slot_lists.specs.Walk.{carried}
 use Rattle.slot_lists.specs.declared.SlotSums.{SlotSums}
-use Rattle.blocks.specs.BlocksLaws.{Blocks, blocks_table}
+use Rattle.blocks.specs.BlocksLaws.{Blocking, Blocks, blocks_table}
 use Rattle.input_data.specs.Accepted.{accepted, past, first_zero}
 use Rattle.input_data.specs.Bytes.{IsDay, day_of, wider, lent_number}
 use Rattle.input_data.specs.BytesLaws.{Lent, lent_zero, lent_short}
@@ -35,9 +37,9 @@ use Rattle.input_data.specs.declared.checks.Beside.{Beside}
 use Rattle.schedule_state.specs.Answered.{state_answered, list_answered}
 use Rattle.schedule_state.specs.Bytes.{IsState, not_state, state_in}
 use Rattle.schedule_state.specs.Calls.{beside_lists, build_number, update_number, state_number, slot_list_number, state_answer, Leaves, names_outside, build_lent, update_lent, Built, Updated, slot_list_lent, slot_list_answer}
-use Rattle.schedule_state.specs.Good.{Handed, Ready, Carriable, kept_names, part_in, slots_most}
+use Rattle.schedule_state.specs.Good.{Handed, Ready, Names, kept_names, part_in, part_of, choices_most, slots_most, weighs_of, blocking}
 use Rattle.schedule_state.specs.Numbers.{err_is, lent_rest, state_long, state_accepted}
-use Rattle.schedule_state.specs.State.{inconsistent, blocked_at}
+use Rattle.schedule_state.specs.State.{inconsistent, blocked_at, state_of}
 use Rattle.schedule_state.specs.declared.AssignmentScheduleState.{AssignmentScheduleState}
 use Rattle.schedule_state.specs.declared.listing.SlotListPart.{SlotListPart}
 use Rattle.schedule_updates.specs.Carrying.{build_tested, update_tested, StateCarried}
@@ -49,12 +51,14 @@ use Rattle.schedule_updates.specs.Listing.{list_beside, list_tested, ListFound, 
 pub names_lent : (d : InputData) (sch : List ℕ) → not_schedule sch ≡ false → names_outside d sch ≡ outside d (schedule_of sch)
 names_lent d sch e = rw e
 
-pub both_long : (st sch : List ℕ) → (not_state st || not_schedule sch) ≡ false → IsState st × (length sch ≡ 32)
-both_long st sch e = let p : (not_state st ≡ false) × (not_schedule sch ≡ false) = or_split e in (state_long st p.0, schedule_long sch p.1)
+-- .. of one that was read beside a day that passes
+pub read_names : (l : Limits) (d : InputData) (sch : List ℕ) (size : ℕ) {e : List ℕ} {x : Bool} → 0 ≡ day_number l d (wider (not_schedule sch) (beside_lists l size false)) 0 → e ≡ sch → x ≡ bad_slots d.choices d.slots e → x ≡ names_outside d sch
+read_names l d sch size p q r =
+    let t : (not_schedule sch ≡ false) × (ltb size (lists_length l) ≡ false) = or_split (lengths_right l d (wider (not_schedule sch) (beside_lists l size false)) p) in
+    r ∙ ap (bad_slots d.choices d.slots) q ∙ sym (names_lent d sch t.0)
 
-pub handed_lists : (l : Limits) (st : List ℕ) (size : ℕ) (wrong asked : Bool) → Within l → (wrong ≡ false → IsState st) → Handed l (wider wrong (beside_lists l size asked)) st size
-handed_lists l st size wrong asked w h = record {
-  within = w;
+pub handed_lists : (l : Limits) (st : List ℕ) (size : ℕ) (wrong asked : Bool) → (wrong ≡ false → IsState st) → Handed l (wider wrong (beside_lists l size asked)) st size
+handed_lists l st size wrong asked h = record {
   state = λ e. let p : (wrong ≡ false) × (ltb size (lists_length l) ≡ false) = or_split e in h p.0;
   room = λ e. let p : (wrong ≡ false) × (ltb size (lists_length l) ≡ false) = or_split e in ltb-false size (lists_length l) p.1;
 }
@@ -65,6 +69,11 @@ state_lent : (l : Limits) (day : List ℕ) (wrong also also' : Bool) (b : Beside
 unfolding state_number
 state_lent l day wrong also also' b st bytes h e =
     lent_rest l day wrong b _ _ h (λ w. ap (λ (t : Bool). first_of (t || outside (day_of day) st.schedule) 11 (first_of (inconsistent l (day_of day) st bytes) 12 0)) (e w))
+
+-- what is lent to a call that passes has its lengths
+pub state_lengths : (l : Limits) (d : InputData) (st : AssignmentScheduleState) (b : Beside) (also : Bool) (bytes : List ℕ) → 0 ≡ state_number l d st b also bytes → b.bad_lengths ≡ false
+unfolding state_number
+state_lengths l d st b also bytes e = (past l d b _ (sym e)).lengths
 
 -- .. of a day that is read, and of one that is not
 pub unread : (l : Limits) (day : List ℕ) (wrong : Bool) (n : ℕ) {r : Refusal} → Err r ≡ day_read day → number r ≡ lent_number l day wrong n
@@ -139,13 +148,26 @@ leaves_refused {n = n} res r h e =
 leaves_done : {n : ℕ} {st st' : AssignmentScheduleState} {made before after : List ℕ} → 0 ≡ n → st' ≡ st → after ≡ made → Leaves n st made before after (state_answered (Ok st'))
 leaves_done e p q = rw (← e) (record { gives = ap (state_answer 0) p; leaves = q })
 
--- what the code carries is the state of the next schedule
-pub carried_state : (l : Limits) (d : InputData) {last next before after : List ℕ} {s : SlotSums} {blocks : List Bool} → ListsCarried l.choices d.choices last next d.mins before after s → Blocks (blocked_at d next) blocks
-    → StateCarried l d last next before after (record { schedule = record { entries = next }; covered = s.covered; blocks = blocks })
-carried_state l d {next = next} {s = s} {blocks = blocks} h b = record {
-  gives = rw (sums_table (min_at d) (entry_at next) d.choices s.covered h.sums.covered, blocks_table (blocked_at d next) blocks b);
-  leaves = h.lists;
+-- what the code makes is the state of the next schedule
+pub state_made : (d : InputData) {last next : List ℕ} {c c' : CarriedLists} {blocks : List Bool} → ListsCarried d.choices last next d.mins c c' → Blocks (blocked_at d next) blocks
+    → record { schedule = record { entries = next }; covered = c'.sums.now.covered; blocks = blocks } ≡ state_of d next
+state_made d {next = next} {c' = c'} {blocks = blocks} h b = rw (sums_table (min_at d) (entry_at next) d.choices c'.sums.now.covered h.sums.covered, blocks_table (blocked_at d next) blocks b)
+
+-- .. and what it carries, by the limits
+pub state_carried : (l : Limits) (d : InputData) {last next after : List ℕ} {c c' : CarriedLists} {st : AssignmentScheduleState} → c.stride ≡ l.choices → st ≡ state_of d next → ListsCarried d.choices last next d.mins c c' → after ≡ c'.bytes.now
+    → StateCarried l d last next c.bytes.now after st
+state_carried l d {last = last} {next = next} {c = c} e q h t = record {
+  gives = q;
+  leaves = t ∙ ap (λ x. x.bytes.now) h.lists ∙ ap (λ n. carried n (entry_at last) (entry_at next) d.choices c.bytes.now d.choices) e;
 }
+
+-- what carrying asks, of two schedules that name the day's slots alone, and the sums of the first
+carries_of : {l : Limits} {d : InputData} {last next : List ℕ} {c : CarriedLists} → Ready l d (length c.bytes.now) → c.stride ≡ l.choices → Names d last → Names d next → AreSums (min_at d) (entry_at last) d.choices c.sums.now
+    → Carries d.choices last next d.mins c × Blocking d.assignment
+carries_of a e f g s = (
+  record { count = choices_most a; room = rw e a.day.choices; from = weighs_of a f; to = weighs_of a g; from_part = rw e (part_of a f); to_part = rw e (part_of a g); sums = s },
+  blocking a,
+)
 
 -- ---- a build
 
@@ -161,19 +183,11 @@ module _ (l : Limits) (day sch : List ℕ) (size : ℕ) (w : Within l) {d : Inpu
   build_zero : Lent day (not_schedule sch) (build_number l (day_of day) (schedule_of sch) size)
   build_zero = lent_zero l day (not_schedule sch) (build_number l (day_of day) (schedule_of sch) size) (sym (p ∙ build_is l day r sch size))
 
-  pub build_long : length sch ≡ 32
-  build_long = schedule_long sch build_zero.right
-
-  pub build_carriable : {first : List ℕ} {s : SlotSums} → first ≡ kept d.choices sch → s ≡ no_sums → Carriable l d (replicate 32 0) first size s
-  build_carriable t q =
+  pub build_carries : {first : List ℕ} {c : CarriedLists} → length c.bytes.now ≡ size → c.stride ≡ l.choices → first ≡ kept d.choices sch → c.sums.now ≡ no_sums → Carries d.choices (replicate 32 0) first d.mins c × Blocking d.assignment
+  build_carries {c = c} b e t q =
       let z : build_number l d (schedule_of sch) size ≡ 0 = rw (← (read_ok day r).1) at build_zero.zero in
-      let a = build_ready l d (schedule_of sch) size w z in
-      rw (t, q) (record {
-        ready = a;
-        from = record { fits = λ k b. none_fits k d.slots };
-        to = kept_names a (schedule_of sch) (build_inside l d (schedule_of sch) size w z);
-        sums = rw none_nowhere (nowhere_summed (min_at d) d.choices);
-      })
+      let a : Ready l d (length c.bytes.now) = rw b (build_ready l d (schedule_of sch) size w z) in
+      rw t (carries_of a e (record { fits = λ k x. none_fits k d.slots }) (kept_names a (schedule_of sch) (build_inside l d (schedule_of sch) size w z)) (rw (none_nowhere, q) (nowhere_summed (min_at d) d.choices)))
 
 pub built_leaves : (l : Limits) (day sch : List ℕ) {d : InputData} {first bytes bytes' : List ℕ} {st : AssignmentScheduleState} → Ok d ≡ day_read day → 0 ≡ build_tested l d sch (length bytes) → first ≡ kept d.choices sch
     → StateCarried l d (replicate 32 0) first bytes bytes' st → Built l day sch bytes bytes' (state_answered (Ok st))
@@ -189,14 +203,16 @@ module _ (l : Limits) (day st sch bytes : List ℕ) (w : Within l) {d : InputDat
   update_zero = lent_zero l day (not_state st || not_schedule sch) (update_number l (day_of day) (state_in st) (schedule_of sch) bytes) (sym (p ∙ update_is l day r st sch bytes))
 
   -- what was lent has its length
-  pub update_long : IsState st × (length sch ≡ 32)
-  update_long = both_long st sch update_zero.right
+  pub update_long : IsState st
+  update_long = let p : (not_state st ≡ false) × (not_schedule sch ≡ false) = or_split update_zero.right in state_long st p.0
 
-  pub update_carriable : {last next : List ℕ} {s : SlotSums} → last ≡ kept_of d (state_in st).schedule → next ≡ kept d.choices sch → AreSums (min_at d) (entry_at (kept_of d (state_in st).schedule)) d.choices s → Carriable l d last next (length bytes) s
-  update_carriable t q h =
+  pub update_carries : {last next : List ℕ} {c : CarriedLists} → c.bytes.now ≡ bytes → c.stride ≡ l.choices → last ≡ kept_of d (state_in st).schedule → next ≡ kept d.choices sch → AreSums (min_at d) (entry_at (kept_of d (state_in st).schedule)) d.choices c.sums.now
+      → Carries d.choices last next d.mins c × Blocking d.assignment
+  update_carries {c = c} b e t q h =
       let z : update_number l d (state_in st) (schedule_of sch) bytes ≡ 0 = rw (← (read_ok day r).1) at update_zero.zero in
       let u = update_accepted l d (state_in st) (schedule_of sch) bytes w z in
-      rw (t, q) (record { ready = u.ready; from = kept_names u.ready (state_in st).schedule u.from; to = kept_names u.ready (schedule_of sch) u.to; sums = h })
+      let a : Ready l d (length c.bytes.now) = rw b u.ready in
+      rw (t, q) (carries_of a e (kept_names a (state_in st).schedule u.from) (kept_names a (schedule_of sch) u.to) h)
 
   pub updated_leaves : {last next bytes' : List ℕ} {st' : AssignmentScheduleState} → last ≡ kept_of d (state_in st).schedule → next ≡ kept d.choices sch
       → StateCarried l d last next bytes bytes' st' → Updated l day st sch bytes bytes' (state_answered (Ok st'))
@@ -209,7 +225,7 @@ module _ (l : Limits) (day st sch bytes : List ℕ) (w : Within l) {d : InputDat
 -- a call that is accepted asks about one of 8 slots
 pub slot_few : (l : Limits) (d : InputData) (st : List ℕ) (slot : ℕ) (bytes : List ℕ) → Within l → 0 ≡ list_tested l d st slot bytes → slot < 8
 slot_few l d st slot bytes w e =
-    let a = state_accepted l d (state_in st) (list_beside l d st slot bytes) false bytes w (handed_lists l st (length bytes) (not_state st) (leb d.slots slot) w (state_long st)).room (sym e) in
+    let a = state_accepted l d (state_in st) (list_beside l d st slot bytes) false bytes w (handed_lists l st (length bytes) (not_state st) (leb d.slots slot) (state_long st)).room (sym e) in
     omega (arith, leb-false d.slots slot a.past.asked, slots_most a.ready)
 
 module _ (l : Limits) (day st : List ℕ) (slot : ℕ) (bytes : List ℕ) where

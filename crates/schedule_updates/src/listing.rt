@@ -1,46 +1,44 @@
 // The list of a slot, as a part of the lent buffer.
 ghost use Rattle.std.specs.Prelude.{◌≡◌};
-ghost use Rattle.input_data.specs.Lengths.{Within, full_day};
+ghost use Rattle.input_data.specs.Lengths.{full_day};
 ghost use Rattle.schedule_state.specs.Answered.{list_answered};
 ghost use Rattle.schedule_state.specs.Calls.{slot_list_answer};
 ghost use Rattle.schedule_updates.specs.Listing.{ListFound, Listed};
 
-use input_data::{Day, Limits};
+use input_data::{Day, FixedLimits};
 use refusal::Refusal;
 use schedule_state::{SlotListPart, beside, check_state};
 use slot_lists::SlotSums;
 
 // Checks 1 to 12. The sums of the state's schedule, where none applies.
 fn check_list(
-    limits: Limits,
+    fixed: FixedLimits,
     day: &Day,
     state: &[u8],
     lists: &[u8],
     slot: usize,
 ) -> Result<SlotSums, Refusal>
-    requires { Within limits }
-    ensures { ListFound limits day.now state.now slot lists.now result }
+    ensures { ListFound fixed.limits day.now state.now slot lists.now result }
 {
     let asked = day.slots() <= slot;
-    let tested = beside(limits, state.len() != 2112, lists.len(), asked);
-    check_state(limits, day, state, tested, false, lists)
+    let tested = beside(fixed, state.len() != 2112, lists.len(), asked);
+    check_state(fixed, day, state, tested, false, lists)
 }
 
-#[tactic(auto, using(crate::specs::Numbers::slot_few))]
+#[tactic(auto, using(crate::specs::Numbers::slot_few, crate::specs::Numbers::list_finds))]
 fn part_within(
-    limits: Limits,
+    fixed: FixedLimits,
     day: &[u8],
     state: &[u8],
     lists: &[u8],
     slot: usize,
 ) -> Result<SlotListPart, Refusal>
-    requires { Within limits }
-    ensures { list_answered result ≡ slot_list_answer limits day.now state.now slot lists.now }
+    ensures { list_answered result ≡ slot_list_answer fixed.limits day.now state.now slot lists.now }
 {
     let day = Day::read(day)?;
-    let sums = check_list(limits, &day, state, lists, slot)?;
+    let sums = check_list(fixed, &day, state, lists, slot)?;
     Ok(SlotListPart {
-        start: limits.choices * slot,
+        start: fixed.limits.choices * slot,
         length: sums.lens[slot] as usize,
     })
 }
@@ -54,7 +52,7 @@ pub fn slot_list_part(
 ) -> Result<SlotListPart, Refusal>
     ensures { list_answered result ≡ slot_list_answer full_day day.now state.now slot lists.now }
 {
-    part_within(input_data::full_day(), day, state, lists, slot)
+    part_within(FixedLimits::full_day(), day, state, lists, slot)
 }
 
 // A slot's list: the used front of its part of the caller's buffer.

@@ -1,126 +1,142 @@
 // Build and update.
-ghost use Rattle.std.specs.Prelude.{◌≡◌, length};
+ghost use Rattle.std.specs.Prelude.{◌≡◌, false, length, IfOk, MatchOption};
 ghost use Rattle.refusal.specs.Number.{outcome};
-ghost use Rattle.input_data.specs.Lengths.{Within, full_day};
+ghost use Rattle.input_data.specs.Day.{min_at};
+ghost use Rattle.input_data.specs.Lengths.{full_day};
+ghost use Rattle.scheduling.specs.Handed.{kept_of};
+ghost use Rattle.scheduling.specs.Schedule.{entry_at, bad_slots};
 ghost use Rattle.schedule_state.specs.Answered.{state_answered};
-ghost use Rattle.schedule_state.specs.Calls.{names_outside, Built, Updated};
-ghost use Rattle.schedule_state.specs.Good.{Carriable};
-ghost use Rattle.schedule_updates.specs.Carrying.{build_tested, UpdateFound, StateCarried};
+ghost use Rattle.schedule_state.specs.Bytes.{state_in};
+ghost use Rattle.schedule_state.specs.Calls.{Built, Updated};
+ghost use Rattle.schedule_state.specs.State.{state_of};
+ghost use Rattle.schedule_updates.specs.Carrying.{build_tested, update_tested};
+ghost use Rattle.slot_lists.specs.SumsLaws.{AreSums};
+ghost use Rattle.carried_lists.specs.Carried.{ListsCarried};
+ghost use Rattle.carried_lists.specs.CarriedLaws.{Carries};
+ghost use Rattle.blocks.specs.BlocksLaws.{Blocking};
 
 use blocks::fill_blocks;
-use carried_lists::carry;
-use day_checks::check_day;
-use input_data::{Day, Limits};
+use carried_lists::CarriedLists;
+use input_data::{Day, FixedLimits};
 use refusal::Refusal;
 use schedule_state::{AssignmentScheduleState, LentState, beside, check_state};
-use scheduling::{Scheduling, bad_slots, kept};
+use scheduling::{Scheduling, bad_slots, kept, read_entries};
 use slot_lists::SlotSums;
 
-// Moves the lists from one schedule to the next, whose state is made: its blocks are made anew. The sums are
-// those of the first. Inlined, so that the 2,112 bytes are made where they are handed back, and not copied at
-// each return.
+// Moves the lists, with the sums of the first schedule, to the next one, whose state is made: its blocks are made
+// anew. Inlined, so that the 2,112 bytes are made where they are handed back, and not copied at each return.
+#[tactic(auto, using(crate::specs::Numbers::state_made))]
 #[inline(always)]
 fn carry_state<'a>(
-    limits: Limits,
     day: &Day,
     last: &'a [u8; 32],
     next: &'a [u8; 32],
-    lists: &mut [u8],
-    mut sums: SlotSums,
+    lists: &mut CarriedLists,
 ) -> AssignmentScheduleState
-    requires { Carriable limits day.now last.now next.now (length lists.old) sums }
-    ensures { StateCarried limits day.now last.now next.now lists.old lists.new result }
+    requires { Carries day.now.choices last.now next.now day.now.mins lists.old × Blocking day.now.assignment }
+    ensures state { result ≡ state_of day.now next.now }
+    ensures lists { ListsCarried day.now.choices last.now next.now day.now.mins lists.old lists.new }
 {
-    carry(
-        lists,
-        &mut sums,
-        limits.choices,
-        day.choices(),
-        last,
-        next,
-        &day.mins(),
-    );
+    lists.carry(day.choices(), last, next, &day.mins());
     let mut state = AssignmentScheduleState {
         schedule: Scheduling { entries: *next },
-        covered: sums.covered,
+        covered: lists.sums.covered,
         blocks: [false; 2048],
     };
     fill_blocks(&mut state.blocks, day, next);
     state
 }
 
-// Whether a schedule that is lent beside a day names a slot that the day has not. One of another length names none.
-fn names_outside(day: &Day, schedule: &[u8]) -> bool
-    ensures { result ≡ names_outside day.now schedule.now }
+// Checks 1 to 11 of a build. The schedule's entries, where none applies.
+#[tactic(auto, using(crate::specs::Numbers::read_names, input_data::specs::ReadLaws::day_refused, input_data::specs::ReadLaws::day_passed), unfolding(input_data::specs::Checks::first_of))]
+fn check_build<'a>(
+    fixed: FixedLimits,
+    day: &Day,
+    schedule: &'a [u8],
+    size: usize,
+) -> Result<&'a [u8; 32], Refusal>
+    ensures number { outcome result ≡ build_tested fixed.limits day.now schedule.now size }
+    ensures entries { IfOk result (λ e. e.now ≡ schedule.now) }
 {
-    schedule.len() == 32 && bad_slots(day.choices(), day.slots(), schedule)
-}
-
-// Checks 1 to 11 of a build.
-fn check_build(limits: Limits, day: &Day, schedule: &[u8], size: usize) -> Result<(), Refusal>
-    requires { Within limits }
-    ensures { outcome result ≡ build_tested limits day.now schedule.now size }
-{
-    check_day(
-        limits,
-        day,
-        beside(limits, schedule.len() != 32, size, false),
-    )?;
-    if names_outside(day, schedule) {
+    let beside = beside(fixed, false, size, false);
+    let entries = read_entries(fixed.limits, day, schedule, beside)?;
+    if bad_slots(day.choices(), day.slots(), entries) {
         return Err(Refusal::Schedule);
     }
-    Ok(())
+    Ok(entries)
 }
 
 // A fresh build within limits: the walk from the schedule in which no choice has a slot.
 fn build_within(
-    limits: Limits,
+    fixed: FixedLimits,
     day: &[u8],
     schedule: &[u8],
     lists: &mut [u8],
 ) -> Result<AssignmentScheduleState, Refusal>
-    requires { Within limits }
-    ensures { Built limits day.now schedule.now lists.old lists.new (state_answered result) }
+    ensures { Built fixed.limits day.now schedule.now lists.old lists.new (state_answered result) }
 {
     let day = Day::read(day)?;
-    check_build(limits, &day, schedule, lists.len())?;
-    let first = kept(day.choices(), schedule);
-    Ok(carry_state(limits, &day, &[0; 32], &first, lists, SlotSums::none()))
+    let entries = check_build(fixed, &day, schedule, lists.len())?;
+    let first = kept(day.choices(), entries);
+    let mut lists = CarriedLists {
+        bytes: lists,
+        stride: fixed.limits.choices,
+        sums: &mut SlotSums::none(),
+    };
+    Ok(carry_state(&day, &[0; 32], &first, &mut lists))
 }
 
-// Checks 1 to 12 of an update. The sums of the state's schedule, where none applies.
-fn check_update(
-    limits: Limits,
+// Whether a schedule that is lent beside a day names a slot that the day has not. One of another length names none.
+fn names_outside(day: &Day, entries: Option<&[u8; 32]>) -> bool
+    ensures { MatchOption entries.entry (result ≡ false) (λ e. result ≡ bad_slots day.now.choices day.now.slots e.now) }
+{
+    match entries {
+        Some(entries) => bad_slots(day.choices(), day.slots(), entries),
+        None => false,
+    }
+}
+
+// Checks 1 to 12 of an update. The sums of the state's schedule, and the entries of the next, where none applies.
+#[tactic(auto, using(crate::specs::Numbers::state_lengths))]
+fn check_update<'a>(
+    fixed: FixedLimits,
     day: &Day,
     state: &[u8],
-    schedule: &[u8],
+    schedule: &'a [u8],
     lists: &[u8],
-) -> Result<SlotSums, Refusal>
-    requires { Within limits }
-    ensures { UpdateFound limits day.now state.now schedule.now lists.now result }
+) -> Result<(SlotSums, &'a [u8; 32]), Refusal>
+    ensures number { outcome result ≡ update_tested fixed.limits day.now state.now schedule.now lists.now }
+    ensures sums { IfOk result (λ r. AreSums (min_at day.now) (entry_at (kept_of day.now (state_in state.now).schedule)) day.now.choices r.0) }
+    ensures entries { IfOk result (λ r. r.1.now ≡ schedule.now) }
 {
-    let wrong = (state.len() != 2112) | (schedule.len() != 32);
-    let tested = beside(limits, wrong, lists.len(), false);
-    let also = names_outside(day, schedule);
-    check_state(limits, day, state, tested, also, lists)
+    let entries = schedule.as_array::<32>();
+    let wrong = (state.len() != 2112) | entries.is_none();
+    let tested = beside(fixed, wrong, lists.len(), false);
+    let also = names_outside(day, entries);
+    let sums = check_state(fixed, day, state, tested, also, lists)?;
+    Ok((sums, entries.unwrap()))
 }
 
 // An update within limits. The sums of the check are those that are carried.
 fn update_within(
-    limits: Limits,
+    fixed: FixedLimits,
     day: &[u8],
     state: &[u8],
     schedule: &[u8],
     lists: &mut [u8],
 ) -> Result<AssignmentScheduleState, Refusal>
-    requires { Within limits }
-    ensures { Updated limits day.now state.now schedule.now lists.old lists.new (state_answered result) }
+    ensures { Updated fixed.limits day.now state.now schedule.now lists.old lists.new (state_answered result) }
 {
     let day = Day::read(day)?;
-    let sums = check_update(limits, &day, state, schedule, lists)?;
+    let (mut sums, entries) = check_update(fixed, &day, state, schedule, lists)?;
     let last = LentState::of(state).kept(&day);
-    let next = kept(day.choices(), schedule);
-    Ok(carry_state(limits, &day, &last, &next, lists, sums))
+    let next = kept(day.choices(), entries);
+    let mut lists = CarriedLists {
+        bytes: lists,
+        stride: fixed.limits.choices,
+        sums: &mut sums,
+    };
+    Ok(carry_state(&day, &last, &next, &mut lists))
 }
 
 // A fresh build: choices upward, each appended to its slot's list.
@@ -131,7 +147,7 @@ pub fn build(
 ) -> Result<AssignmentScheduleState, Refusal>
     ensures { Built full_day day.now schedule.now lists.old lists.new (state_answered result) }
 {
-    build_within(input_data::full_day(), day, schedule, lists)
+    build_within(FixedLimits::full_day(), day, schedule, lists)
 }
 
 // An update: the lists follow the choices that move, the blocks are made anew.
@@ -143,5 +159,5 @@ pub fn update(
 ) -> Result<AssignmentScheduleState, Refusal>
     ensures { Updated full_day day.now state.now schedule.now lists.old lists.new (state_answered result) }
 {
-    update_within(input_data::full_day(), day, state, schedule, lists)
+    update_within(FixedLimits::full_day(), day, state, schedule, lists)
 }

@@ -1,11 +1,12 @@
 -- Laws of entries. Assumes nothing.
-use Rattle.std.specs.Prelude.{ℕ, zero, suc, ◌-◌, ◌<◌, ◌≤◌, ◌≡◌, refl, Bool, true, false, ◌≢◌, List, [], ◌∷◌, ◌++◌, ltb}
-use Rattle.std.proofs.Common.{ap, ◌∙◌, arith, lt_of_lt_of_le, ltb-false, lt-ltb}
+use Rattle.std.specs.Prelude.{ℕ, zero, suc, ◌-◌, ◌<◌, ◌≤◌, ◌≡◌, refl, Bool, true, false, ◌≢◌, List, [], ◌∷◌, ◌++◌, ltb, Some}
+use Rattle.std.proofs.Common.{ap, sym, ◌∙◌, arith, lt_of_lt_of_le, ltb-false, lt-ltb}
+use Rattle.std.proofs.lemmas.Option.{none-some, same_Some}
 use Rattle.counting.specs.Fold.{gate}
 use Rattle.counting.specs.FoldLaws.{fold_ext}
 use Rattle.counting.specs.Lists.{table_at}
 use Rattle.counting.specs.Tests.{below_each}
-use Rattle.scheduling.specs.Schedule.{entry_at, of_entry, bad_entry_at, bad_slots, kept_at, kept}
+use Rattle.scheduling.specs.Schedule.{entry_at, of_entry, slot_in, bad_entry_at, bad_slots, kept_at, kept}
 
 -- by cases of an entry: what holds for none, and what for a slot
 module _ {ℓ} {A : Type ℓ} where
@@ -16,6 +17,11 @@ module _ {ℓ} {A : Type ℓ} where
   pub of_slot_lem : (e : ℕ) (none : A) (slot : ℕ → A) → e ≢ 0 → of_entry e none slot ≡ slot (e - 1)
   of_slot_lem zero none slot q = absurd (q refl)
   of_slot_lem (suc s) none slot q = ap slot (omega arith)
+
+-- the entry that names a slot
+pub slot_entry : (e s : ℕ) → Some s ≡ slot_in e → e ≡ suc s
+slot_entry zero s f = absurd (none-some s (sym f))
+slot_entry (suc t) s f = sym (ap suc (same_Some s t f))
 
 -- ---- laws
 

@@ -1,5 +1,5 @@
 -- What accepted input satisfies, and the numbers and answers as the code comes to them. Assumes nothing.
-use Rattle.std.specs.Prelude.{ℕ, Float, ◌+◌, ◌*◌, ◌<◌, ◌≤◌, ◌≡◌, Bool, true, not, ◌&&◌, ◌||◌, List, ◌≢◌, eqb, ltb, leb, length, Result, Ok, Err, IfOk, refl}
+use Rattle.std.specs.Prelude.{ℕ, Float, ◌+◌, ◌*◌, ◌<◌, ◌≤◌, ◌≡◌, Bool, true, not, ◌&&◌, ◌||◌, List, ◌≢◌, eqb, leb, length, Result, Ok, Err, IfOk, refl}
 use Rattle.std.proofs.Common.{sym, ◌∙◌, mul-le-mul, arith}
 use Rattle.std.proofs.Math.Path.{ap}
 use Rattle.std.proofs.Math.Bool.{false, or-false, or_comm}
@@ -12,7 +12,7 @@ use Rattle.counting.specs.Tests.{or_split, none_each}
 use Rattle.input_data.specs.Accepted.{Accepted, accepted, past, first_zero}
 use Rattle.input_data.specs.Bytes.{IsDay, day_of, wider, lent_number}
 use Rattle.input_data.specs.BytesLaws.{lent_short, lent_number_lem, lent_is}
-use Rattle.input_data.specs.Checks.{first_of, day_number, has_bad_preferences, above_at, too_many}
+use Rattle.input_data.specs.Checks.{first_of, day_number, has_bad_preferences, above_at}
 use Rattle.input_data.specs.Lengths.{Within, plan_length, preferences_length, powers_length}
 use Rattle.input_data.specs.Read.{day_read}
 use Rattle.input_data.specs.ReadLaws.{read_ok, read_err}
@@ -155,24 +155,6 @@ parts_weighed l d sch plan preferences powers w e =
     }
 
 -- ---- numbers
-
--- what was lent beside a day that passes has its lengths
-pub lengths_right : (l : Limits) (d : InputData) (b : Beside) → 0 ≡ day_number l d b 0 → b.bad_lengths ≡ false
-lengths_right l d b e = (past l d b 0 (sym e)).lengths
-
--- a day that is too large is refused by 1, whatever else is tested
-pub number_many : (l : Limits) (d : InputData) (b : Beside) (rest : ℕ) → too_many l d.choosers d.choices d.slots ≡ true → 1 ≡ day_number l d b rest
-unfolding day_number first_of
-number_many l d b rest e = rw e
-
--- one that is not can be multiplied
-pub cells_most : (l : Limits) (d : InputData) → Within l → too_many l d.choosers d.choices d.slots ≡ false → d.choosers * d.choices ≤ 2048
-cells_most l d w e =
-    let m : ((ltb l.choosers d.choosers || ltb l.choices d.choices) ≡ false) × (ltb l.slots d.slots ≡ false) = or_split e in
-    let n : (ltb l.choosers d.choosers ≡ false) × (ltb l.choices d.choices ≡ false) = or_split m.0 in
-    let a : d.choosers ≤ 64 = omega (arith, w.choosers, ltb-false l.choosers d.choosers n.0) in
-    let b : d.choices ≤ 32 = omega (arith, w.choices, ltb-false l.choices d.choices n.1) in
-    mul-le-mul a b
 
 -- the number of a solution is that of the parts that it has
 module _ (l : Limits) (d : InputData) (sch plan preferences : List ℕ) (powers : ℕ) where

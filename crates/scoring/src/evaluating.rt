@@ -1,58 +1,51 @@
 // Scoring::evaluate.
-ghost use Rattle.std.specs.Prelude.{◌≡◌, ◌*◌, ◌≤◌, length, IfOk};
+ghost use Rattle.std.specs.Prelude.{◌≡◌, length, IfOk};
 ghost use Rattle.refusal.specs.Number.{outcome};
-ghost use Rattle.input_data.specs.Lengths.{Within, full_day};
+ghost use Rattle.input_data.specs.Lengths.{full_day};
 ghost use Rattle.scoring.specs.Answered.{parts_of, score_answered};
 ghost use Rattle.scoring.specs.Handed.{beside_scoring, solution_handed, parts_scored, parts_lent};
 
 use crate::reading::{read_parts, read_schedule};
 use crate::solution::Solution;
 use day_checks::{bad_preferences, check_day};
-use input_data::{Beside, Day, Limits, full_day, too_many};
+use input_data::{Beside, Day, FixedLimits, NOTHING};
 use plan_score::Scoring;
 use refusal::Refusal;
 use score::Score;
 
-// What a call tests of a score's tables. The day's sizes are tested before any product of them is formed.
+// What a call tests of a score's tables.
 fn beside_scoring(day: &Day, by: &Scoring) -> Beside
-    requires { day.now.choosers * day.now.choices ≤ 2048 }
     ensures { result ≡ beside_scoring day.now by.now.preferences.now (length by.now.powers.now) }
 {
     let most = day.max_preference();
     Beside {
-        bad_lengths: (by.preferences.len() != day.choosers() * day.choices())
+        bad_lengths: (by.preferences.len() != day.preferences())
             | (by.powers.len() != most as usize + 1),
         bad_preferences: bad_preferences(most, by.preferences),
-        bad_levels: false,
-        bad_costs: false,
-        bad_asked: false,
+        ..NOTHING
     }
 }
 
 // The score of a solution, once all that it has has passed the tests of the call. What has no plan scores infinite twice.
-#[tactic(auto, using(crate::specs::Laws::number_many, crate::specs::Laws::cells_most, crate::specs::Laws::invalid_number, crate::specs::Laws::scheduling_number, crate::specs::Laws::complete_number, crate::specs::Laws::parts_weighed))]
+#[tactic(auto, using(crate::specs::Laws::invalid_number, crate::specs::Laws::scheduling_number, crate::specs::Laws::complete_number, crate::specs::Laws::parts_weighed))]
 fn score_solution(
-    limits: Limits,
+    fixed: FixedLimits,
     day: &Day,
     solution: &Solution,
     by: &Scoring,
 ) -> Result<Score, Refusal>
-    requires { Within limits }
-    ensures number { outcome result ≡ solution_handed limits day.now (parts_of solution.now) by.now.preferences.now (length by.now.powers.now) }
+    ensures number { outcome result ≡ solution_handed fixed.limits day.now (parts_of solution.now) by.now.preferences.now (length by.now.powers.now) }
     ensures score { IfOk result (λ s. s ≡ parts_scored day.now (parts_of solution.now) by.now.greedy by.now.preferences.now by.now.powers.now) }
 {
-    if too_many(limits, day.choosers(), day.choices(), day.slots()) {
-        return Err(Refusal::TooMany);
-    }
     let beside = beside_scoring(day, by);
     match solution {
-        Solution::Invalid => check_day(limits, day, beside)?,
+        Solution::Invalid => check_day(fixed.limits, day, beside)?,
         Solution::Scheduling(schedule) => {
-            read_schedule(limits, day, schedule, beside)?;
+            read_schedule(fixed, day, schedule, beside)?;
         }
         Solution::Complete(schedule, plan) => {
-            let entries = read_parts(limits, day, schedule, plan, beside)?;
-            return Ok(by.evaluate(day, &entries, plan));
+            let judged = read_parts(fixed, day, schedule, plan, beside)?;
+            return Ok(by.evaluate(&judged));
         }
     }
     Ok(Score::infinite())
@@ -60,21 +53,20 @@ fn score_solution(
 
 #[tactic(auto, using(crate::specs::Laws::score_unread, crate::specs::Laws::score_tested))]
 fn evaluate_within(
-    limits: Limits,
+    fixed: FixedLimits,
     day: &[u8],
     solution: &Solution,
     by: &Scoring,
 ) -> Result<Score, Refusal>
-    requires { Within limits }
-    ensures { score_answered result ≡ parts_lent limits day.now (parts_of solution.now) by.now.greedy by.now.preferences.now by.now.powers.now }
+    ensures { score_answered result ≡ parts_lent fixed.limits day.now (parts_of solution.now) by.now.greedy by.now.preferences.now by.now.powers.now }
 {
     let day = Day::read(day)?;
-    score_solution(limits, &day, solution, by)
+    score_solution(fixed, &day, solution, by)
 }
 
 // The score of a solution. What has no plan scores infinite twice.
 pub fn evaluate(day: &[u8], solution: &Solution, by: &Scoring) -> Result<Score, Refusal>
     ensures { score_answered result ≡ parts_lent full_day day.now (parts_of solution.now) by.now.greedy by.now.preferences.now by.now.powers.now }
 {
-    evaluate_within(full_day(), day, solution, by)
+    evaluate_within(FixedLimits::full_day(), day, solution, by)
 }

@@ -2,26 +2,25 @@
 #![tactic(auto, using(crate::specs::Laws::verdict_unread, crate::specs::Laws::verdict_refused, crate::specs::Laws::verdict_given, input_data::specs::ReadLaws::read_ok), unfolding(crate::specs::Calls::assignment_lent, crate::specs::Calls::plan_lent, crate::specs::Calls::verdict_number))]
 
 ghost use Rattle.std.specs.Prelude.{◌≡◌};
-ghost use Rattle.input_data.specs.Lengths.{Within, full_day};
+ghost use Rattle.input_data.specs.Lengths.{full_day};
 ghost use Rattle.scoring.specs.Answered.{verdict_answered};
 ghost use Rattle.scoring.specs.Calls.{assignment_lent, plan_lent};
 
-use crate::reading::{NOTHING, read_parts};
-use input_data::{Day, Limits, full_day};
+use crate::reading::read_parts;
+use input_data::{Day, FixedLimits, NOTHING};
 use refusal::Refusal;
 
 fn assignment_within(
-    limits: Limits,
+    fixed: FixedLimits,
     day: &[u8],
     schedule: &[u8],
     plan: &[u8],
 ) -> Result<bool, Refusal>
-    requires { Within limits }
-    ensures { verdict_answered result ≡ assignment_lent limits day.now schedule.now plan.now }
+    ensures { verdict_answered result ≡ assignment_lent fixed.limits day.now schedule.now plan.now }
 {
     let day = Day::read(day)?;
-    let entries = read_parts(limits, &day, schedule, plan, NOTHING)?;
-    Ok(satisfies_constraints::assignment_met(&day, &entries, plan))
+    let judged = read_parts(fixed, &day, schedule, plan, NOTHING)?;
+    Ok(satisfies_constraints::assignment_met(judged.day, &judged.entries, judged.plan))
 }
 
 // Whether the plan meets every assignment constraint of the day.
@@ -32,21 +31,25 @@ pub fn satisfies_constraints_assignment(
 ) -> Result<bool, Refusal>
     ensures { verdict_answered result ≡ assignment_lent full_day day.now schedule.now plan.now }
 {
-    assignment_within(full_day(), day, schedule, plan)
+    assignment_within(FixedLimits::full_day(), day, schedule, plan)
 }
 
-fn plan_within(limits: Limits, day: &[u8], schedule: &[u8], plan: &[u8]) -> Result<bool, Refusal>
-    requires { Within limits }
-    ensures { verdict_answered result ≡ plan_lent limits day.now schedule.now plan.now }
+fn plan_within(
+    fixed: FixedLimits,
+    day: &[u8],
+    schedule: &[u8],
+    plan: &[u8],
+) -> Result<bool, Refusal>
+    ensures { verdict_answered result ≡ plan_lent fixed.limits day.now schedule.now plan.now }
 {
     let day = Day::read(day)?;
-    let entries = read_parts(limits, &day, schedule, plan, NOTHING)?;
-    Ok(feasibility::plan_holds(&day, &entries, plan))
+    let judged = read_parts(fixed, &day, schedule, plan, NOTHING)?;
+    Ok(judged.is_feasible())
 }
 
 // Scoring::is_feasible.
 pub fn is_feasible(day: &[u8], schedule: &[u8], plan: &[u8]) -> Result<bool, Refusal>
     ensures { verdict_answered result ≡ plan_lent full_day day.now schedule.now plan.now }
 {
-    plan_within(full_day(), day, schedule, plan)
+    plan_within(FixedLimits::full_day(), day, schedule, plan)
 }

@@ -2,20 +2,19 @@
 #![tactic(auto, using(crate::specs::Laws::verdict_unread, crate::specs::Laws::verdict_refused, crate::specs::Laws::verdict_given, input_data::specs::ReadLaws::read_ok), unfolding(crate::specs::Calls::scheduling_lent, crate::specs::Calls::schedule_lent, crate::specs::Calls::schedule_number))]
 
 ghost use Rattle.std.specs.Prelude.{◌≡◌};
-ghost use Rattle.input_data.specs.Lengths.{Within, full_day};
+ghost use Rattle.input_data.specs.Lengths.{full_day};
 ghost use Rattle.scoring.specs.Answered.{verdict_answered};
 ghost use Rattle.scoring.specs.Calls.{scheduling_lent, schedule_lent};
 
-use crate::reading::{NOTHING, read_schedule};
-use input_data::{Day, Limits, full_day};
+use crate::reading::read_schedule;
+use input_data::{Day, FixedLimits, NOTHING};
 use refusal::Refusal;
 
-fn scheduling_within(limits: Limits, day: &[u8], schedule: &[u8]) -> Result<bool, Refusal>
-    requires { Within limits }
-    ensures { verdict_answered result ≡ scheduling_lent limits day.now schedule.now }
+fn scheduling_within(fixed: FixedLimits, day: &[u8], schedule: &[u8]) -> Result<bool, Refusal>
+    ensures { verdict_answered result ≡ scheduling_lent fixed.limits day.now schedule.now }
 {
     let day = Day::read(day)?;
-    let entries = read_schedule(limits, &day, schedule, NOTHING)?;
+    let entries = read_schedule(fixed, &day, schedule, NOTHING)?;
     Ok(satisfies_constraints::scheduling_met(&day, &entries))
 }
 
@@ -23,15 +22,14 @@ fn scheduling_within(limits: Limits, day: &[u8], schedule: &[u8]) -> Result<bool
 pub fn satisfies_constraints_scheduling(day: &[u8], schedule: &[u8]) -> Result<bool, Refusal>
     ensures { verdict_answered result ≡ scheduling_lent full_day day.now schedule.now }
 {
-    scheduling_within(full_day(), day, schedule)
+    scheduling_within(FixedLimits::full_day(), day, schedule)
 }
 
-fn schedule_within(limits: Limits, day: &[u8], schedule: &[u8]) -> Result<bool, Refusal>
-    requires { Within limits }
-    ensures { verdict_answered result ≡ schedule_lent limits day.now schedule.now }
+fn schedule_within(fixed: FixedLimits, day: &[u8], schedule: &[u8]) -> Result<bool, Refusal>
+    ensures { verdict_answered result ≡ schedule_lent fixed.limits day.now schedule.now }
 {
     let day = Day::read(day)?;
-    let entries = read_schedule(limits, &day, schedule, NOTHING)?;
+    let entries = read_schedule(fixed, &day, schedule, NOTHING)?;
     Ok(feasibility::schedule_holds(&day, &entries))
 }
 
@@ -39,5 +37,5 @@ fn schedule_within(limits: Limits, day: &[u8], schedule: &[u8]) -> Result<bool, 
 pub fn schedule_is_feasible(day: &[u8], schedule: &[u8]) -> Result<bool, Refusal>
     ensures { verdict_answered result ≡ schedule_lent full_day day.now schedule.now }
 {
-    schedule_within(full_day(), day, schedule)
+    schedule_within(FixedLimits::full_day(), day, schedule)
 }

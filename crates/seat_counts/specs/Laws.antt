@@ -14,7 +14,7 @@ use Rattle.counting.specs.Sums.{sum_most, count_le, grid_lt}
 use Rattle.counting.specs.Tests.{eq_cases, lt_cases}
 use Rattle.scheduling.specs.Schedule.{entry_at}
 use Rattle.seat_counts.specs.Seats.{seat_entry, is_new, is_choice, part_count}
-use Rattle.seat_counts.specs.Preferences.{PreferenceTable, preference_at, greatest_row, greatest, has_preference, uses_row, uses_in, uses, scaling_of, term_of, minor_to, minor_of}
+use Rattle.seat_counts.specs.Preferences.{preference_at, greatest_row, greatest, has_preference, uses_row, uses_in, uses, scaling_of, term_of, minor_to, minor_of}
 
 -- a plan whose seats are scheduled choices: 11 and 13 have passed
 pub record Seated (choosers slots : ℕ) (sch plan : List ℕ) : Type 0 where
@@ -54,10 +54,6 @@ pub record Reading (choosers choices slots : ℕ) (preferences plan : List ℕ) 
   pub table : choosers * choices ≤ length preferences
   pub choice : (c s : ℕ) → c < choosers → s < slots → choice_of slots plan c s < choices
   pub small : (i : ℕ) → i < length preferences → entry_at preferences i ≤ 255
-
--- .. of a table whose fields are a value's
-pub reading_of : {t u : PreferenceTable} → t ≡ u → Reading t.choosers t.choices t.slots t.preferences t.plan → Reading u.choosers u.choices u.slots u.preferences u.plan
-reading_of e r = rw (← e) r
 
 -- an array holds what f says of each preference
 pub record UsesHeld (f : ℕ → ℕ) (counts : List ℕ) : Type 0 where

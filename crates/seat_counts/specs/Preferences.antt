@@ -4,19 +4,7 @@ use Rattle.std.specs.Float.{nan, fin, binary32}
 use Rattle.std.specs.Float.Ieee.{add, mul, div, of_int}
 use Rattle.assignment.specs.Plan.{choice_of}
 use Rattle.counting.specs.Fold.{fold_to, count_to, sum_to}
-use Rattle.input_data.specs.declared.InputData.{InputData}
 use Rattle.scheduling.specs.Schedule.{entry_at}
-
--- what the preferences of a plan's seats are read of: a day's sizes, its table, and the plan
-pub record PreferenceTable : Type 0 where
-  pub choosers : ℕ
-  pub choices : ℕ
-  pub slots : ℕ
-  pub preferences : List ℕ
-  pub plan : List ℕ
-
-abbrev pub table_of : InputData → List ℕ → List ℕ → PreferenceTable
-table_of d preferences plan = record { choosers = d.choosers; choices = d.choices; slots = d.slots; preferences = preferences; plan = plan }
 
 -- the preference of chooser c's seat in column s
 abbrev pub preference_at : ℕ → ℕ → List ℕ → List ℕ → ℕ → ℕ → ℕ

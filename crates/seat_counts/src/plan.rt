@@ -6,6 +6,7 @@ ghost use Rattle.seat_counts.specs.Seats.{once_each, none_twice, all_filled};
 ghost use Rattle.seat_counts.specs.Laws.{RowSeated, Seated, Choices, Parts};
 
 use input_data::Day;
+use scheduling::slot_in;
 
 // Sets a mark for each seat of a chooser. Whether no slot was marked twice.
 #[tactic(auto, using(counting::specs::FoldLaws::fold_none, crate::specs::Laws::marked_none), unfolding(crate::specs::Seats::once_each))]
@@ -22,7 +23,7 @@ fn mark_row(
     let base = chooser * slots;
     let mut once = true;
     for s in 0..slots {
-        let slot = (entries[plan[base + s] as usize] - 1) as usize;
+        let slot = slot_in(entries[plan[base + s] as usize]).unwrap();
         once &= !marks[slot];
         marks[slot] = true;
     }
@@ -51,7 +52,7 @@ pub fn part_counts(day: &Day, plan: &[u8]) -> [u32; 32]
     ensures { Parts (seats day.now) plan.now result }
 {
     let mut counts = [0u32; 32];
-    for i in 0..day.choosers() * day.slots() {
+    for i in 0..day.seats() {
         counts[plan[i] as usize] += 1;
     }
     counts

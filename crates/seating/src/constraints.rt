@@ -1,11 +1,13 @@
 // The entries over constraint.rs.
 ghost use Rattle.std.specs.Prelude.{◌≡◌, cond, pos};
+ghost use Rattle.refusal.specs.Number.{number};
 ghost use Rattle.constraint.specs.Kind.{kind_of, is_valid, is_scheduling, is_assignment};
 ghost use Rattle.constraint.specs.Negation.{negation_of, constraint_of};
 ghost use Rattle.seating.specs.Constraints.{negation_numbers, refused_numbers, negated_numbers};
 
 use crate::numbers;
 use constraint::ConstraintType;
+use refusal::Refusal;
 
 #[repr(C)]
 #[derive(Clone, Copy, Debug)]
@@ -19,11 +21,11 @@ pub struct NegationNumbers {
     pub extra: i32,
 }
 
-fn refuse(number: u32) -> NegationNumbers
-    ensures { result ≡ refused_numbers number }
+fn refuse(refusal: Refusal) -> NegationNumbers
+    ensures { result ≡ refused_numbers (number refusal) }
 {
     NegationNumbers {
-        number,
+        number: u32::from(refusal),
         kind: 0,
         left: 0,
         target_case: 0,
@@ -79,7 +81,7 @@ pub extern "C" fn cendravoka_negation(
             let operator = numbers::negated_operator(extra);
             return negated_with(6, left, target_case, target, 2, operator);
         }
-        return refuse(9);
+        return refuse(Refusal::Operands);
     }
     let there = numbers::has_extra(extra_case, extra);
     negated_with(

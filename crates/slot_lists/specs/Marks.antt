@@ -14,8 +14,11 @@ use Rattle.scheduling.specs.Schedule.{entry_at}
 use Rattle.slot_lists.specs.HeldLaws.{Held, held, not_misheld, holds_any, times_found, member, member_is, member_out, member_count_lem}
 use Rattle.slot_lists.specs.Held.{misheld}
 use Rattle.slot_lists.specs.Lists.{listed, is_listed}
+use Rattle.slot_lists.specs.ListsLaws.{is_entry, part_length, part_at}
+use Rattle.slot_lists.specs.Parts.{list_bytes}
 use Rattle.slot_lists.specs.SumsLaws.{Sums}
 use Rattle.slot_lists.specs.Sums.{one, in_slot, weighed}
+use Rattle.slot_lists.specs.declared.lists.SlotLists.{SlotLists}
 
 -- choice k stands in the list of slot s
 abbrev pub stands_in : ℕ → (ℕ → ℕ) → List ℕ → ℕ → ℕ → Bool
@@ -36,14 +39,14 @@ stray_at stride len f slots l k = not (eqb (marked_by stride len l k slots) (f k
 abbrev pub unmarked_at : List ℕ → (ℕ → ℕ) → ℕ → Bool
 unmarked_at m f k = not (eqb (get_or m k 0) (f k))
 
--- what looking asks: a schedule of 8 slots at most, whose parts are in the buffer, and its lists' lengths
-pub record Looks (stride n slots : ℕ) (entries : List ℕ) (size : ℕ) (a : List ℕ) : Type 0 where
+-- what looking asks: a schedule of 8 slots at most, and lists whose parts are in the buffer, as long as the schedule has them
+pub record Looks (n slots : ℕ) (entries : List ℕ) (l : SlotLists) : Type 0 where
   pub count : n ≤ 32
   pub few : slots ≤ 8
-  pub room : n ≤ stride
+  pub room : n ≤ l.stride
   pub fits : (k : ℕ) → k < n → entry_at entries k ≤ slots
-  pub part : (s : ℕ) → s < slots → stride * s + stride ≤ size
-  pub lens : Sums one (entry_at entries) n a
+  pub part : (s : ℕ) → s < slots → l.stride * s + l.stride ≤ length l.bytes.now
+  pub lens : Sums one (entry_at entries) n l.lens
 
 -- ---- laws
 
@@ -102,30 +105,27 @@ module _ (stride : ℕ) (f : ℕ → ℕ) (n slots : ℕ) (l : List ℕ) (fit : 
 
 -- ---- the code's marks
 
--- marks m once a list's first n entries, which begin at `start`, have marked theirs with e
-pub record Noted (l : List ℕ) (start n e : ℕ) (m m' : List ℕ) : Type 0 where
+-- marks m once a list's first n entries have marked theirs with e
+pub record Noted (p : List ℕ) (n e : ℕ) (m m' : List ℕ) : Type 0 where
   pub long : length m' ≡ length m
-  pub at : (k : ℕ) → k < 256 → get_or m' k 0 ≡ cond (any_to n (λ j. eqb (get_or l (start + j) 0) k)) e (get_or m k 0)
+  pub at : (k : ℕ) → k < 256 → get_or m' k 0 ≡ cond (any_to n (is_entry p k)) e (get_or m k 0)
 
-pub noted_none : (l : List ℕ) (start e : ℕ) (m : List ℕ) → Noted l start 0 e m m
-noted_none l start e m = record { long = refl; at = λ k h. sym (ap (λ (t : Bool). cond t e (get_or m k 0)) (fold_none ◌||◌ false (λ j. eqb (get_or l (start + j) 0) k))) }
+pub noted_none : (p : List ℕ) (e : ℕ) (m : List ℕ) → Noted p 0 e m m
+noted_none p e m = record { long = refl; at = λ k h. sym (ap (λ (t : Bool). cond t e (get_or m k 0)) (fold_none ◌||◌ false (is_entry p k))) }
 
-module _ (l : List ℕ) (start : ℕ) where
-  abbrev here : ℕ → ℕ → Bool
-  here k j = eqb (get_or l (start + j) 0) k
+module _ (p : List ℕ) where
+  any_here : (n k : ℕ) → eqb (get_or p n 0) k ≡ true → any_to (n + 1) (is_entry p k) ≡ true
+  any_here n k e = fold_more ◌||◌ false n (is_entry p k) ∙ rw e (or-true (any_to n (is_entry p k)))
 
-  any_here : (n k : ℕ) → eqb (get_or l (start + n) 0) k ≡ true → any_to (n + 1) (here k) ≡ true
-  any_here n k e = fold_more ◌||◌ false n (here k) ∙ rw e (or-true (any_to n (here k)))
+  any_there : (n k : ℕ) → eqb (get_or p n 0) k ≡ false → any_to (n + 1) (is_entry p k) ≡ any_to n (is_entry p k)
+  any_there n k e = fold_more ◌||◌ false n (is_entry p k) ∙ rw e (or-false (any_to n (is_entry p k)))
 
-  any_there : (n k : ℕ) → eqb (get_or l (start + n) 0) k ≡ false → any_to (n + 1) (here k) ≡ any_to n (here k)
-  any_there n k e = fold_more ◌||◌ false n (here k) ∙ rw e (or-false (any_to n (here k)))
-
-  pub noted_more : {n e x : ℕ} {m m' m'' : List ℕ} → Noted l start n e m m' → length m ≡ 256 → x ≡ get_or l (start + n) 0 → x < 256 → m'' ≡ set m' x e → Noted l start (n + 1) e m m''
-  noted_more {n = n} {e = e} {x = x} {m = m} {m' = m'} {m'' = m''} p long q h w = record {
-    long = ap length w ∙ length-set m' x e ∙ p.long;
+  pub noted_more : {n e x : ℕ} {m m' m'' : List ℕ} → Noted p n e m m' → length m ≡ 256 → x ≡ get_or p n 0 → x < 256 → m'' ≡ set m' x e → Noted p (n + 1) e m m''
+  noted_more {n = n} {e = e} {x = x} {m = m} {m' = m'} {m'' = m''} t long q h w = record {
+    long = ap length w ∙ length-set m' x e ∙ t.long;
     at = λ k b. rw w (eq_cases x k
-        (λ u t. let v : any_to (n + 1) (here k) ≡ true = any_here n k (eq-eqb (get_or l (start + n) 0) k (sym q ∙ u)) in rw v (rw (← u) (get_or-set_same m' x e 0 (omega (arith, p.long)))))
-        (λ u t. let v : any_to (n + 1) (here k) ≡ any_to n (here k) = any_there n k (ne_eqb (get_or l (start + n) 0) k (λ z. u (q ∙ z))) in rw v (get_or-set_other m' x k e 0 (λ z. u (sym z)) ∙ p.at k b)));
+        (λ u v. let z : any_to (n + 1) (is_entry p k) ≡ true = any_here n k (eq-eqb (get_or p n 0) k (sym q ∙ u)) in rw z (rw (← u) (get_or-set_same m' x e 0 (omega (arith, t.long)))))
+        (λ u v. let z : any_to (n + 1) (is_entry p k) ≡ any_to n (is_entry p k) = any_there n k (ne_eqb (get_or p n 0) k (λ y. u (q ∙ y))) in rw z (get_or-set_other m' x k e 0 (λ y. u (sym y)) ∙ t.at k b)));
   }
 
 -- the marks of the slots below s
@@ -136,19 +136,31 @@ pub record Marks (stride : ℕ) (len : ℕ → ℕ) (l : List ℕ) (s : ℕ) (m 
 pub marks_none : (stride : ℕ) (len : ℕ → ℕ) (l : List ℕ) → Marks stride len l 0 (replicate 256 0)
 marks_none stride len l = record { long = refl; at = λ k h. get_or-replicate {A = ℕ} 256 k 0 0 h ∙ sym (marked_none stride len l k) }
 
-pub marks_more : {stride : ℕ} {len : ℕ → ℕ} {l : List ℕ} {s n e : ℕ} {m m' : List ℕ} → Marks stride len l s m → n ≡ len s → e ≡ suc s → Noted l (stride * s) n e m m' → Marks stride len l (s + 1) m'
-marks_more {stride = stride} {len = len} {l = l} {s = s} {m = m} p q u v = record {
-  long = v.long ∙ p.long;
-  at = λ k h. v.at k h ∙ rw (q, u, p.at k h) (sym (marked_more stride len l k s));
-}
+-- what looking asks gives, of a slot
+module _ {n slots : ℕ} {entries : List ℕ} {l : SlotLists} (h : Looks n slots entries l) (s : ℕ) (b : s < slots) where
+  pub looks_few : s < 8
+  looks_few = omega (arith, h.few)
+
+  pub looks_fits : get_or l.lens s 0 ≤ l.stride
+  looks_fits = omega (arith, h.room, h.lens.at s looks_few, count_le n (in_slot (entry_at entries) s))
+
+  pub marks_more : {e : ℕ} {p m m' : List ℕ} → Marks l.stride (weighed one (entry_at entries) n) l.bytes.now s m → p ≡ list_bytes l s → e ≡ suc s → Noted p (length p) e m m'
+      → Marks l.stride (weighed one (entry_at entries) n) l.bytes.now (s + 1) m'
+  marks_more {p = p} q r u v =
+      let len : length p ≡ get_or l.lens s 0 = ap length r ∙ part_length (l.stride * s) (get_or l.lens s 0) l.bytes.now (omega (arith, h.part s b, looks_fits)) in
+      record {
+        long = v.long ∙ q.long;
+        at = λ k c. v.at k c ∙ rw (len, u, q.at k c)
+            (ap (λ (t : Bool). cond t (suc s) (marked_by l.stride (weighed one (entry_at entries) n) l.bytes.now k s))
+            (fold_ext ◌||◌ false (get_or l.lens s 0) (is_entry p k) (is_listed l.stride l.bytes.now s k)
+            (λ j d. rw r (ap (λ z. eqb z k) (part_at (l.stride * s) (get_or l.lens s 0) l.bytes.now j d)))
+            ∙ ap (λ z. any_to z (is_listed l.stride l.bytes.now s k)) (h.lens.at s looks_few))
+            ∙ sym (marked_more l.stride (weighed one (entry_at entries) n) l.bytes.now k s));
+      }
 
 -- all marks, held against the schedule
-pub marks_all : {stride n slots : ℕ} {entries : List ℕ} {size : ℕ} {a l m : List ℕ} → Looks stride n slots entries size a → Marks stride (weighed one (entry_at entries) n) l slots m
-    → any_to n (unmarked_at m (entry_at entries)) ≡ misheld stride (entry_at entries) n slots l
-marks_all {stride = stride} {n = n} {slots = slots} {entries = entries} {l = l} {m = m} h p =
-    fold_ext ◌||◌ false n (unmarked_at m (entry_at entries)) (stray_at stride (weighed one (entry_at entries) n) (entry_at entries) slots l) (λ k b. ap (λ (v : ℕ). not (eqb v (entry_at entries k))) (p.at k (omega (arith, h.count))))
-    ∙ stray_is stride (entry_at entries) n slots l h.fits
-
--- a list is in its part
-pub marks_part : {stride n slots : ℕ} {entries : List ℕ} {size : ℕ} {a : List ℕ} → Looks stride n slots entries size a → (s : ℕ) → s < slots → stride * s + get_or a s 0 ≤ size
-marks_part {n = n} {entries = entries} h s b = omega (arith, h.part s b, h.room, h.few, h.lens.at s (omega (arith, h.few)), count_le n (in_slot (entry_at entries) s))
+pub marks_all : {n slots : ℕ} {entries m : List ℕ} {l : SlotLists} → Looks n slots entries l → Marks l.stride (weighed one (entry_at entries) n) l.bytes.now slots m
+    → any_to n (unmarked_at m (entry_at entries)) ≡ misheld l.stride (entry_at entries) n slots l.bytes.now
+marks_all {n = n} {slots = slots} {entries = entries} {m = m} {l = l} h p =
+    fold_ext ◌||◌ false n (unmarked_at m (entry_at entries)) (stray_at l.stride (weighed one (entry_at entries) n) (entry_at entries) slots l.bytes.now) (λ k b. ap (λ (v : ℕ). not (eqb v (entry_at entries k))) (p.at k (omega (arith, h.count))))
+    ∙ stray_is l.stride (entry_at entries) n slots l.bytes.now h.fits

@@ -2,6 +2,7 @@
 use Rattle.std.specs.Prelude.{ℕ, zero, suc, ◌+◌, ◌-◌, ◌*◌, ◌<◌, ◌≤◌, ◌≡◌, refl, Bool, cond, List, ◌≢◌, eqb, length, get_or, set, replicate}
 use Rattle.std.proofs.Common.{sym, ap, ◌∙◌, arith, length-set, ext_get_or, get_or-set_same, get_or-set_other, eq-eqb, ne_eqb}
 use Rattle.std.proofs.lemmas.List.{get_or-replicate}
+use Rattle.counting.specs.Calls.{TakesBelow, AgreesBelow}
 use Rattle.counting.specs.Fold.{gate, table_to}
 use Rattle.counting.specs.FoldLaws.{fold_ext, fold_none, fold_more}
 use Rattle.counting.specs.Lists.{length_table, table_at}
@@ -29,6 +30,15 @@ pub record Weighs (entries weights : List ℕ) (n : ℕ) : Type 0 where
   pub small : (k : ℕ) → k < n → entry_at entries k ≤ 8
   pub light : (k : ℕ) → k < n → entry_at weights k ≤ 1000
 
+-- .. of the schedule, and of a weight that calls give
+pub record Slotted (entries : List ℕ) (n : ℕ) : Type 0 where
+  pub count : n ≤ 32
+  pub small : (k : ℕ) → k < n → entry_at entries k ≤ 8
+
+pub record Light (takes : ℕ → Type 0) (gives : ℕ → ℕ → Type 0) (n : ℕ) : Type 0 where
+  pub may : TakesBelow takes n
+  pub light : (k : ℕ) → k < n → (w : ℕ) → gives k w → w ≤ 1000
+
 -- an array of 8 holds the sums
 pub record Sums (w f : ℕ → ℕ) (n : ℕ) (a : List ℕ) : Type 0 where
   pub long : length a ≡ 8
@@ -45,11 +55,6 @@ less e w s = record { lens = subtracted e 1 s.lens; covered = subtracted e w s.c
 
 abbrev pub more : ℕ → ℕ → SlotSums → SlotSums
 more e w s = record { lens = added e 1 s.lens; covered = added e w s.covered }
-
--- nothing is summed yet
-pub record Unweighed (a c : List ℕ) : Type 0 where
-  pub lens : a ≡ replicate 8 0
-  pub covered : c ≡ replicate 8 0
 
 -- ---- laws
 
@@ -152,9 +157,9 @@ sums_next {w = w} {f = f} {i = i} {a = a} p h = go (f i) refl h
           (λ x y. get_or-set_other a t s (get_or a t 0 + w i) 0 x ∙ p.at s l ∙ skip s (λ z. x (omega arith)));
     }
 
--- a sum of the slot that an entry names is within bounds
-pub sums_most : {w f : ℕ → ℕ} {n : ℕ} {a : List ℕ} → Sums w f n a → (b : ℕ) → ((k : ℕ) → k < n → w k ≤ b) → (e : ℕ) → e ≤ 8 → e ≢ 0 → get_or a (e - 1) 0 ≤ n * b
-sums_most {w = w} {f = f} {n = n} p b h e l d = omega (arith, p.at (e - 1) (omega arith), weighed_most w f n (e - 1) b h)
+-- a slot's sum is within bounds
+pub sums_most : {w f : ℕ → ℕ} {n : ℕ} {a : List ℕ} → Sums w f n a → (b : ℕ) → ((k : ℕ) → k < n → w k ≤ b) → (s : ℕ) → s < 8 → get_or a s 0 ≤ n * b
+sums_most {w = w} {f = f} {n = n} p b h s l = omega (arith, p.at s l, weighed_most w f n s b h)
 
 -- zeros are the sums of no choice, and of the schedule in which no choice has a slot
 zeros_at : {a : List ℕ} → a ≡ replicate 8 0 → (s : ℕ) → s < 8 → get_or a s 0 ≡ 0
@@ -166,26 +171,35 @@ sums_zeros w f e = record { long = ap length e; at = λ s l. zeros_at e s l ∙ 
 sums_nowhere : (w : ℕ → ℕ) (n : ℕ) → Sums w nowhere n (replicate 8 0)
 sums_nowhere w n = record { long = refl; at = λ s l. zeros_at refl s l ∙ sym (weighed_nowhere w n s) }
 
-pub unweighed_none : {a c : List ℕ} (mins entries : List ℕ) → Unweighed a c → AreSums (entry_at mins) (entry_at entries) 0 (record { lens = a; covered = c })
-unweighed_none mins entries p = record { lens = sums_zeros one (entry_at entries) p.lens; covered = sums_zeros (entry_at mins) (entry_at entries) p.covered }
-
-pub none_summed : (w f : ℕ → ℕ) {s : SlotSums} → s ≡ no_sums → AreSums w f 0 s
-none_summed w f e = record { lens = sums_zeros one f (ap (λ t. t.lens) e); covered = sums_zeros w f (ap (λ t. t.covered) e) }
-
 pub nowhere_summed : (w : ℕ → ℕ) (n : ℕ) → AreSums w nowhere n no_sums
 nowhere_summed w n = record { lens = sums_nowhere one n; covered = sums_nowhere w n }
 
+-- the sums of a weight that calls give, once the choices below i are summed
+pub record Summed (gives : ℕ → ℕ → Type 0) (n : ℕ) (entries : List ℕ) (i : ℕ) (a : List ℕ) : Type 0 where
+  pub long : length a ≡ 8
+  pub most : (s : ℕ) → s < 8 → get_or a s 0 ≤ i * 1000
+  pub sums : (w : ℕ → ℕ) → AgreesBelow gives n w → Sums w (entry_at entries) i a
+
+pub summed_none : (gives : ℕ → ℕ → Type 0) (n : ℕ) (entries : List ℕ) → Summed gives n entries 0 (replicate 8 0)
+summed_none gives n entries = record { long = refl; most = λ s l. omega (arith, zeros_at refl s l); sums = λ w t. sums_zeros w (entry_at entries) refl }
+
+added_length : (e w : ℕ) (a : List ℕ) → length (added e w a) ≡ length a
+added_length zero w a = refl
+added_length (suc t) w a = length-set a t (get_or a t 0 + w)
+
+-- a sum grows by the weight at most
+added_most : (e w b : ℕ) (a : List ℕ) → e ≤ length a → ((s : ℕ) → s < length a → get_or a s 0 ≤ b) → (s : ℕ) → s < length a → get_or (added e w a) s 0 ≤ b + w
+added_most zero w b a q h s l = omega (arith, h s l)
+added_most (suc t) w b a q h s l = eq_cases s t
+    (λ x y. rw x (rw (get_or-set_same a t (get_or a t 0 + w) 0 (omega arith)) (omega (arith, h t (omega arith)))))
+    (λ x y. rw (get_or-set_other a t s (get_or a t 0 + w) 0 x) (omega (arith, h s l)))
+
 -- a choice more
-pub adds_count : (entries : List ℕ) (i w : ℕ) {a : List ℕ} → entry_at entries i ≤ 8 → i < 32 → w ≤ 1 → Sums one (entry_at entries) i a → Adds (entry_at entries i) w a
-adds_count entries i w h l b p = record { small = h; fits = λ d. omega (arith, sums_most p 1 (λ j c. omega arith) (entry_at entries i) h d) }
-
-pub adds_weight : {entries weights : List ℕ} {n i : ℕ} {a : List ℕ} → Weighs entries weights n → i < n → Sums (entry_at weights) (entry_at entries) i a → Adds (entry_at entries i) (entry_at weights i) a
-adds_weight {entries = entries} {i = i} h l p = record { small = h.small i l; fits = λ d. omega (arith, h.count, h.light i l, sums_most p 1000 (λ j b. h.light j (omega arith)) (entry_at entries i) (h.small i l) d) }
-
-pub sums_more : {entries weights : List ℕ} {n i : ℕ} {a a' : List ℕ} → Weighs entries weights n → i < n → Sums (entry_at weights) (entry_at entries) i a
-    → a' ≡ added (entry_at entries i) (entry_at weights i) a → Sums (entry_at weights) (entry_at entries) (i + 1) a'
-sums_more {i = i} h l p e = rw e (sums_next p (h.small i l))
-
-pub both_more : {mins entries : List ℕ} {n i : ℕ} {s t : SlotSums} → Weighs entries mins n → i < n → AreSums (entry_at mins) (entry_at entries) i s
-    → t ≡ more (entry_at entries i) (entry_at mins i) s → AreSums (entry_at mins) (entry_at entries) (i + 1) t
-both_more {i = i} h l p e = rw e (record { lens = sums_next p.lens (h.small i l); covered = sums_next p.covered (h.small i l) })
+module _ {takes : ℕ → Type 0} {gives : ℕ → ℕ → Type 0} {entries : List ℕ} {n i w : ℕ} {a : List ℕ}
+    (h : Slotted entries n) (g : Light takes gives n) (l : i < n) (p : Summed gives n entries i a) (q : gives i w) where
+  pub summed_more : {a' : List ℕ} → a' ≡ added (entry_at entries i) w a → Summed gives n entries (i + 1) a'
+  summed_more e = rw e (record {
+    long = added_length (entry_at entries i) w a ∙ p.long;
+    most = λ s b. omega (arith, g.light i l w q, added_most (entry_at entries i) w (i * 1000) a (omega (arith, h.small i l, p.long)) (λ t c. p.most t (omega (arith, p.long))) s (omega (arith, p.long)));
+    sums = λ v t. let f = sums_next (p.sums v t) (h.small i l) in rw (t i l w q) f;
+  })

@@ -276,8 +276,8 @@ module _ {l : Limits} {x : ModelInput} (g : Good l x) {b b' : LentBuffers} {m : 
 
   module _ (e : EdgeValues) (index : e.index.now ≡ m.index) (values : e.values.now ≡ vs) where
     -- values that are accepted can be decoded ..
-    pub decodable : (lens : Lengths) (w : Within l) (z : number_with l x lens short ≡ 0) → values_number net vs ≡ 0 → (size : ℕ) → plan_length l ≤ size → Decoding m.sizes m.lists e size
-    decodable lens w z v size room =
+    pub decodable : (lens : Lengths) (w : Within l) (z : number_with l x lens short ≡ 0) → values_number net vs ≡ 0 → Decoding m.sizes m.lists e
+    decodable lens w z v =
         let q = listed_in g p.lists in
         let d = first_same (number_at m.index.numbers) (edge_of (seats_of l x)) p.numbers (length (seats_of l x)) vs (sizes_of l x.day) (count_of x) (list_of l x) (choosers_most g.ready) choice_small in
         rw p.sizes (record {
@@ -287,7 +287,6 @@ module _ {l : Limits} {x : ModelInput} (g : Good l x) {b b' : LentBuffers} {m : 
           part = q.part;
           small = λ s j h c. omega (arith, q.choice s j h c, choices_most g.ready);
           edges = rw (index, values, p.seats) seats_in_lem;
-          room = omega (arith, mul-le-mul g.ready.day.choosers g.ready.day.slots, room);
           found = λ c s hc hs. rw (len_at s, p.lists.bytes, p.lists.stride, index, values, p.seats) (rw (d c s (omega (arith, choosers_most g.ready)) hs) (found l x lens short w z vs v c s hc hs));
         })
 
@@ -319,6 +318,10 @@ module _ (l : Limits) (day st : List ℕ) {x : ModelInput} {b b' : LentBuffers} 
       let q : (ltb (length vs) (edges_length l) ≡ false) × (ltb size (plan_length l) ≡ false) = or_split (sym short ∙ is_lent.rest) in
       (ltb-false _ _ q.0, ltb-false _ _ q.1)
 
+  -- the plan has room for every seat
+  pub plan_room : m.sizes.choosers * m.sizes.slots ≤ size
+  plan_room = rw p.made.sizes (omega (arith, mul-le-mul is_good.ready.day.choosers is_good.ready.day.slots, long_enough.1))
+
   -- the values can be checked ..
   pub can_check : Checkable (node_count m.sizes) m.counts (held b') (length vs)
   can_check = rw p.made.sizes (checkable is_good is_lent p.made vs long_enough.0)
@@ -335,8 +338,8 @@ module _ (l : Limits) (day st : List ℕ) {x : ModelInput} {b b' : LentBuffers} 
       rw (u, v) (record { lent = rw e (values_refused entered r (check_says f)); same = same_made p.made })
 
   module _ (e : EdgeValues) (index : e.index.now ≡ m.index) (values : e.values.now ≡ vs) (passed : 0 ≡ buffer_number (node_count m.sizes) m.counts (held b') vs) where
-    pub can_decode : Decoding m.sizes m.lists e size
-    can_decode = decodable is_good is_lent p.made vs long_enough.0 e index values (lengths_of (held b)) w zero_number (sym (check_says passed)) size long_enough.1
+    pub can_decode : Decoding m.sizes m.lists e
+    can_decode = decodable is_good is_lent p.made vs long_enough.0 e index values (lengths_of (held b)) w zero_number (sym (check_says passed))
 
     pub checked_done : {plan plan' : List ℕ} → plan' ≡ written plan 0 (decoded_plan m.sizes m.lists e) → length plan ≡ size → ValuesChecked l day st x vs b plan b' plan' (Ok m.counts)
     checked_done {plan = plan} h q = record {

@@ -1,25 +1,24 @@
 // The flow model of a state at a preference limit.
-ghost use Rattle.input_data.specs.Lengths.{Within, full_day};
+ghost use Rattle.input_data.specs.Lengths.{full_day};
 ghost use Rattle.flow_model.specs.Calls.{ModelBuilt};
 ghost use Rattle.flow_model.specs.Lent.{call_input};
 
 use flow_model::enter;
-use input_data::{Limits, full_day};
+use input_data::FixedLimits;
 use model_buffers::{Counts, LentBuffers, LentInput};
 use refusal::Refusal;
 
 // Builds the model within limits.
 fn build_model_within(
-    limits: Limits,
+    fixed: FixedLimits,
     day: &[u8],
     state: &[u8],
     input: &LentInput,
     buffers: &mut LentBuffers,
 ) -> Result<Counts, Refusal>
-    requires { Within limits }
-    ensures { ModelBuilt limits day.now state.now (call_input day.now state.now input.now) buffers.old buffers.new result }
+    ensures { ModelBuilt fixed.limits day.now state.now (call_input day.now state.now input.now) buffers.old buffers.new result }
 {
-    let model = enter(limits, day, state, input, false, buffers)?;
+    let model = enter(fixed, day, state, input, false, buffers)?;
     Ok(model.counts)
 }
 
@@ -32,5 +31,5 @@ pub fn build_model(
 ) -> Result<Counts, Refusal>
     ensures { ModelBuilt full_day day.now state.now (call_input day.now state.now input.now) buffers.old buffers.new result }
 {
-    build_model_within(full_day(), day, state, input, buffers)
+    build_model_within(FixedLimits::full_day(), day, state, input, buffers)
 }

@@ -4,7 +4,7 @@ use Rattle.blocks.specs.BlocksLaws.{blocks_none, blocks_more, blocks_all}
 use Rattle.blocks.proofs.fill_blocks.Goals as goal
 
 pub loop-j-init : goal.loop-j-init
-loop-j-init c = blocks_none c.args.entries.now c.requires
+loop-j-init c = blocks_none c.args.entries.now c.told-blocks c.requires
 
 pub loop-j-preserved : goal.loop-j-preserved
 loop-j-preserved c =

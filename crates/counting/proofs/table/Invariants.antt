@@ -1,4 +1,4 @@
-use Rattle.std.proofs.Common.{◌≡◌, ℕ}
+use Rattle.std.proofs.Common.{ℕ}
 use Rattle.counting.specs.Calls.{AgreesBelow}
 use Rattle.counting.specs.Lists.{Filled}
 use Rattle.counting.proofs.table.Given as goal

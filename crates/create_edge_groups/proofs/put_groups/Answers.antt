@@ -10,7 +10,6 @@ put_dependent-requires c =
     let e = c in
     let a = e.args in
     let g = e.requires in (
-      g.choosers,
       g.dependent,
       room_after _ _ _ 2048 1024 (rw e.assignment.ensures at e.put_constraints.ensures) g.room (list_few (number_at a.index.now.numbers) a.sizes (list_length a.lists.now) (list_entry a.lists.now) g.listed.few a.day.now.assignment g.constraints.count) (omega arith) (omega arith),
     )

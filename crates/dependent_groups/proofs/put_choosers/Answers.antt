@@ -1,12 +1,15 @@
-use Rattle.std.proofs.Common.{length, arith}
-use Rattle.mip_flow.specs.IndexLaws.{number_at}
-use Rattle.edge_groups.specs.Bounds.{room_after, choosers_few, row_le}
+use Rattle.std.proofs.Common.{◌<◌, arith, rules}
+use Rattle.edge_groups.specs.Bounds.{room_after, row_le}
+use Rattle.edge_groups.specs.Input.{number_of}
+use Rattle.dependent_groups.specs.Members.{members_few}
 use Rattle.dependent_groups.proofs.put_choosers.Goals as goal
 
-pub put_chooser-requires : goal.put_chooser-requires
-put_chooser-requires c =
-    let e = c in
-    let a = e.args in
-    let i = e.loop-c.c in
-    let m = length a.group.now in
-    (omega arith, e.requires.1, room_after _ _ _ _ _ e.loop-c.invariant e.requires.2 (choosers_few (number_at a.index.now.numbers) a.schedule.now a.group.now 0 m i) (row_le i a.choosers m e.loop-c-test.true) (omega arith))
+pub group_or_block-requires : goal.group_or_block-requires
+group_or_block-requires c =
+    let m = c.args.members.now in
+    let i = c.loop-c.c-counter in
+    let b : i < c.args.input.now.sizes.choosers = omega arith in (
+      (λ k h. search (rules, m.inside.small k h, m.inside.few, c.args.input.now.few)),
+      (λ k h e p. search rules),
+      room_after _ _ _ _ _ c.loop-c.invariant c.requires (members_few (number_of c.args.input.now) m.choices m.count i) (row_le i _ m.count b) (omega arith),
+    )

@@ -6,4 +6,4 @@ use Rattle.mip_flow.specs.Stored.{with_index, store_seats}
 use Rattle.flow_edges.proofs.put_chooser_seats.Given as goal
 
 abbrev pub invariant-loop-s : goal.invariant-loop-s
-invariant-loop-s l = with_index l.edges l.index ≡ store_seats l.offer (with_index l.initial.edges l.initial.index) (join_to l.s (slot_seats_at l.offer (list_length l.lists) (list_entry l.lists) l.c))
+invariant-loop-s l = with_index l.edges l.index ≡ store_seats l.seats.offer.now (with_index l.initial.edges l.initial.index) (join_to l.s (slot_seats_at l.seats.offer.now (list_length l.seats.lists.now) (list_entry l.seats.lists.now) l.c))

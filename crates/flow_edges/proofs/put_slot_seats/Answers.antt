@@ -7,14 +7,14 @@ use Rattle.flow_edges.proofs.put_slot_seats.Goals as goal
 pub put_seat-requires : goal.put_seat-requires
 put_seat-requires c =
     let p = c.requires in
+    let h = c.args.seats.now.listed in
     let e = c.list-list.ensures.holds in
-    (p.1, p.2, list_choices p.0 p.2 e _ c.loop-k-test.true, room_after _ _ 1 c.loop-k.invariant p.3 (omega (arith, slot_most, list_long p.0 p.2 e)))
+    (p.0, p.1, list_choices h p.1 e _ c.loop-k-test.true, room_after _ _ 1 c.loop-k.invariant p.2 (omega (arith, slot_most, list_long h p.1 e)))
 
 pub returns : goal.returns
 unfolding slot_seats
 returns c =
     let a = c.args in
-    let p = c.requires in
     let all : c.loop-k.k-index ≡ length c.list-list.result.now = omega arith in
-    let e = list_join p.0 p.2 c.list-list.ensures.holds (seat_at a.offer.now a.c a.s) in
+    let e = list_join a.seats.now.listed c.requires.1 c.list-list.ensures.holds (seat_at a.seats.now.offer.now a.c a.s) in
     cc

@@ -1,16 +1,16 @@
 use Rattle.std.proofs.Common.{◌≡◌, ◌∙◌, arith, rules}
 use Rattle.scheduling.specs.Schedule.{entry_at}
-use Rattle.slot_lists.specs.Marks.{marks_none, marks_more, marks_all, marks_part, unmarked_at}
+use Rattle.slot_lists.specs.Marks.{marks_none, marks_more, marks_all, looks_fits, unmarked_at}
 use Rattle.slot_lists.proofs.is_misheld.Goals as goal
 
 pub loop-s-init : goal.loop-s-init
 loop-s-init c = marks_none _ _ _
 
-pub mark_list-requires : goal.mark_list-requires
-mark_list-requires c = (c.loop-s.invariant.long, marks_part c.requires c.loop-s.s c.loop-s-test.true)
+pub list-requires-clause-fits : goal.list-requires-clause-fits
+list-requires-clause-fits c = looks_fits c.requires c.loop-s.s c.loop-s-test.true
 
 pub loop-s-preserved : goal.loop-s-preserved
-loop-s-preserved c = marks_more c.loop-s.invariant (c.requires.lens.at c.loop-s.s (omega (arith, c.requires.few))) (omega arith) c.mark_list.ensures
+loop-s-preserved c = marks_more c.requires c.loop-s.s c.loop-s-test.true c.loop-s.invariant c.list.ensures.holds (omega arith) c.mark_list.ensures
 
 pub returns : goal.returns
 returns c =

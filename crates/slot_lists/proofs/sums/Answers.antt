@@ -1,9 +1,13 @@
-use Rattle.std.proofs.Common.{refl}
-use Rattle.slot_lists.specs.SumsLaws.{sums_zeros, sums_more}
+use Rattle.slot_lists.specs.SumsLaws.{summed_none, summed_more}
 use Rattle.slot_lists.proofs.sums.Goals as goal
 
-pub loop-i-init : goal.loop-i-init
-loop-i-init c = sums_zeros _ _ refl
+pub loop-k-init : goal.loop-k-init
+loop-k-init g c = (summed_none _ _ _, summed_none _ _ _)
 
-pub loop-i-preserved : goal.loop-i-preserved
-loop-i-preserved c = sums_more c.requires c.loop-i-test.true c.loop-i.invariant c.add.ensures
+pub loop-k-preserved : goal.loop-k-preserved
+loop-k-preserved g c =
+    let r = c.requires in
+    let (p, q) = c.loop-k.invariant in (
+      summed_more r.slots r.first c.loop-k-test.true p c.a.ensures c.add.ensures,
+      summed_more r.slots r.second c.loop-k-test.true q c.b.ensures c.add-in-loop-k.ensures,
+    )

@@ -1,6 +1,5 @@
-use Rattle.scheduling.specs.Schedule.{entry_at}
-use Rattle.slot_lists.specs.SumsLaws.{Sums}
+use Rattle.slot_lists.specs.SumsLaws.{Summed}
 use Rattle.slot_lists.proofs.sums.Given as goal
 
-abbrev pub invariant-loop-i : goal.invariant-loop-i
-invariant-loop-i l = Sums (entry_at l.weights) (entry_at l.entries) l.i l.out
+abbrev pub invariant-loop-k : goal.invariant-loop-k
+invariant-loop-k g l = Summed (goal.A-post g l.fn.a) l.n l.entries l.k l.first × Summed (goal.B-post g l.fn.b) l.n l.entries l.k l.second

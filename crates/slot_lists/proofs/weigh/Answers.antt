@@ -1,8 +1,10 @@
-use Rattle.slot_lists.specs.SumsLaws.{none_summed, both_more}
+use Rattle.std.proofs.Common.{rules}
+use Rattle.scheduling.specs.Schedule.{entry_at}
+use Rattle.slot_lists.specs.Sums.{one}
 use Rattle.slot_lists.proofs.weigh.Goals as goal
 
-pub loop-i-init : goal.loop-i-init
-loop-i-init c = none_summed _ _ c.none-sums.ensures
-
-pub loop-i-preserved : goal.loop-i-preserved
-loop-i-preserved c = both_more c.requires c.loop-i-test.true c.loop-i.invariant cc
+pub returns : goal.returns
+returns c = record {
+  lens = c.sums.ensures.first one (λ k h x p. search rules);
+  covered = c.sums.ensures.second (entry_at c.args.mins.now) (λ k h x p. search rules);
+}

@@ -8,18 +8,22 @@ of-offer-requires c = rw c.sizes_of-sizes.ensures (offered (good_of c.requires.0
 pub put_supplies-requires : goal.put_supplies-requires
 put_supplies-requires c = rw c.sizes_of-sizes.ensures (supplying (good_of c.requires.0) _ (lent_of c.requires.0).long.supplies)
 
+pub invariant_of-seats : goal.invariant_of-seats
+invariant_of-seats c = record { listed = rw (c.of-offer.ensures, c.sizes_of-sizes.ensures) (listed_in (good_of c.requires.0) c.requires.1) }
+
 pub put_seats-requires : goal.put_seats-requires
 put_seats-requires c =
-    let g = good_of c.requires.0 in
-    rw (c.of-offer.ensures, c.sizes_of-sizes.ensures, c.none-index.ensures)
-    (listed_in g c.requires.1, seat_room g c.args.buffers.now (lent_of c.requires.0) c.requires.1 (record { from = refl; to = refl; max = refl; cost = refl; used = refl }))
+    rw (c.of-offer.ensures, c.sizes_of-sizes.ensures, c.none.ensures)
+    (seat_room (good_of c.requires.0) c.args.buffers.now (lent_of c.requires.0) c.requires.1 (record { from = refl; to = refl; max = refl; cost = refl; used = refl }))
+
+pub invariant_of-choices : goal.invariant_of-choices
+invariant_of-choices c = record { placed = rw (c.kept-schedule.ensures, c.nodes.ensures, c.of-offer.ensures, c.sizes_of-sizes.ensures) (placed (good_of c.requires.0)) }
 
 pub put_choices-requires : goal.put_choices-requires
 put_choices-requires c =
-    let g = good_of c.requires.0 in
-    let p = rw (c.of-offer.ensures, c.sizes_of-sizes.ensures, c.none-index.ensures) at c.put_seats.ensures.stores in
-    rw (c.kept-schedule.ensures, c.sizes_of-sizes.ensures)
-    (placed g, choice_room g c.args.buffers.now (lent_of c.requires.0) c.requires.1 (record { from = refl; to = refl; max = refl; cost = refl; used = refl }) p)
+    let p = rw (c.of-offer.ensures, c.sizes_of-sizes.ensures, c.none.ensures) at c.put_seats.ensures.stores in
+    rw (c.nodes.ensures, c.of-offer.ensures, c.sizes_of-sizes.ensures)
+    (choice_room (good_of c.requires.0) c.args.buffers.now (lent_of c.requires.0) c.requires.1 (record { from = refl; to = refl; max = refl; cost = refl; used = refl }) p)
 
 pub put_groups-requires : goal.put_groups-requires
 put_groups-requires c =
@@ -28,9 +32,9 @@ put_groups-requires c =
 
 pub returns : goal.returns
 returns c =
-    let p = rw (c.of-offer.ensures, c.sizes_of-sizes.ensures, c.none-index.ensures) at c.put_seats.ensures.stores in
+    let p = rw (c.of-offer.ensures, c.sizes_of-sizes.ensures, c.none.ensures) at c.put_seats.ensures.stores in
     let s = rw (c.kept-schedule.ensures, c.sizes_of-sizes.ensures) at c.put_supplies.ensures in
-    let k = rw (c.kept-schedule.ensures, c.sizes_of-sizes.ensures) at c.put_choices.ensures.stores in
+    let k = rw (c.kept-schedule.ensures, c.nodes.ensures, c.of-offer.ensures, c.sizes_of-sizes.ensures) at c.put_choices.ensures.stores in
     let n = rw (c.kept-schedule.ensures, c.sizes_of-sizes.ensures) at c.put_groups.ensures.stores in
     rw c.sizes_of-sizes.ensures
     (made (good_of c.requires.0) c.args.buffers.now c.requires.1 (record { from = refl; to = refl; max = refl; cost = refl; used = refl }) p

@@ -5,4 +5,4 @@ pub is_misblocked-requires : goal.is_misblocked-requires
 is_misblocked-requires c = small_day c.requires.ready
 
 pub returns : goal.returns
-returns c = inconsistent_is c.requires c.args.lists.now (rw (c.slots-slots.ensures, c.choices-n.ensures) at c.is_misheld.ensures) (rw c.slots-slots.ensures at c.sums_differ.ensures) c.is_misblocked.ensures
+returns c = inconsistent_is c.requires c.args.lists.now (rw (c.slots-slots.ensures, c.choices.ensures) at c.is_misheld.ensures) (rw c.slots-slots.ensures at c.sums_differ.ensures) c.is_misblocked.ensures

@@ -5,4 +5,4 @@ pub loop-i-init : goal.loop-i-init
 loop-i-init c = parts_none _
 
 pub loop-i-preserved : goal.loop-i-preserved
-loop-i-preserved c = parts_more c.loop-i.invariant (c.requires.choice _ (rw (c.choosers.ensures, c.slots.ensures) at c.loop-i-test.true))
+loop-i-preserved c = parts_more c.loop-i.invariant (c.requires.choice _ (rw c.seats-i-end.ensures at c.loop-i-test.true))

@@ -1,6 +1,5 @@
-use Rattle.std.proofs.Common.{arith, ap}
-use Rattle.seat_counts.specs.Laws.{reading_of, added_none, added_more, added_most, added_all}
-use Rattle.seat_counts.specs.Preferences.{PreferenceTable}
+use Rattle.std.proofs.Common.{arith}
+use Rattle.seat_counts.specs.Laws.{added_none, added_more, added_most, added_all}
 use Rattle.seat_counts.proofs.preferences.SeatPreferences.count_row.Goals as goal
 
 pub loop-s-init : goal.loop-s-init
@@ -8,7 +7,7 @@ loop-s-init c = added_none _ _ _ _ _ _
 
 pub overflow_add-counts : goal.overflow_add-counts
 overflow_add-counts c =
-    let r = reading_of c.self.view_is c.self.invariant in
+    let r = c.args.self.now.reading in
     let q = c.preference_at.result in
     omega (arith, r.few, r.short, c.requires.small q (omega arith), added_most _ _ _ _ _ _ c.loop-s.invariant q (omega arith))
 
@@ -16,4 +15,4 @@ pub loop-s-preserved : goal.loop-s-preserved
 loop-s-preserved c = added_more _ _ _ _ _ _ c.loop-s.invariant c.preference_at.ensures.value (omega arith)
 
 pub returns : goal.returns
-returns c = added_all _ _ _ _ _ _ (omega (arith, ap (λ (t : PreferenceTable). t.slots) c.self.view_is)) c.loop-s.invariant
+returns c = added_all _ _ _ _ _ _ (omega arith) c.loop-s.invariant
