@@ -28,7 +28,7 @@ fn begun(o: &Opening, bound: u32, greedy: bool) -> Asked
             index: 0,
         };
         let known = Known::nothing(false);
-        return Standing::new(entries).ask(Setting::Greedy, ask, known, o.cached.copied());
+        return Standing::new(entries, known, o.cached.copied()).ask(Setting::Greedy, ask);
     }
     begin_levels(o.levels, bound, entries, &o.cached)
 }

@@ -16,15 +16,9 @@ use refusal::Refusal;
 fn tell_greedy(t: &Telling) -> Asked
     ensures { asked_by result ≡ told_greedy t.now.day.now t.now.search (told_by t.now.told.now) }
 {
-    let standing = Standing {
-        asks: t.search.asks(),
-        entries: scheduling::kept(t.day.choices(), t.search.schedule()),
-    };
-    standing.end(
-        Setting::Greedy,
-        Known::learn_greedy(t.day.seats(), t.day.max_preference(), t.told),
-        t.search.cached().copied(),
-    )
+    let entries = scheduling::kept(t.day.choices(), t.search.schedule());
+    let known = Known::learn_greedy(t.day.seats(), t.day.max_preference(), t.told);
+    Standing::of(&t.search, entries, known).end(Setting::Greedy)
 }
 
 // The answer at the middle of a range ends the search or narrows the range.
@@ -41,15 +35,11 @@ fn tell_range(t: &Telling) -> Asked
         return ask_again(t.levels, &t.search, m + 1, entries, mark);
     }
     let known = Known::learn(t.day.seats(), t.levels[m as usize], &t.search, t.told);
-    let cached = t.search.cached().copied();
-    let standing = Standing {
-        asks: t.search.asks(),
-        entries,
-    };
+    let standing = Standing::of(&t.search, entries, known);
     if range.ends_at(m, t.told) {
-        return standing.end(Setting::Levels(Some(range)), known, cached);
+        return standing.end(Setting::Levels(Some(range)));
     }
-    standing.go_on(t.levels, range.after(m, t.told), known, cached)
+    standing.go_on(t.levels, range.after(m, t.told))
 }
 
 // What a tested answer makes of its search.

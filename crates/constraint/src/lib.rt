@@ -241,10 +241,10 @@ impl ConstraintExtra {
     {
         match case {
             1 => ConstraintExtra::Offset(operand),
-            2 => match SlotSizeLimitOp::try_from(operand) {
-                Ok(op) => ConstraintExtra::SlotSizeLimitOp(op),
-                Err(_) => ConstraintExtra::None,
-            },
+            2 => SlotSizeLimitOp::try_from(operand).map_or(
+                ConstraintExtra::None,
+                ConstraintExtra::SlotSizeLimitOp,
+            ),
             _ => ConstraintExtra::None,
         }
     }

@@ -1,5 +1,6 @@
 // Checks 8 and 9, of lists of constraints, by the kinds' numbers.
-ghost use Rattle.std.specs.Prelude.{◌≡◌, ◌&&◌, ◌||◌, ltb, eqb};
+ghost use Rattle.std.specs.Prelude.{◌≡◌, ◌&&◌, ◌||◌, true, ltb, eqb};
+ghost use Rattle.std.specs.Option.{option_map_or};
 ghost use Rattle.input_data.specs.Checks.{bad_kinds};
 ghost use Rattle.input_data.specs.ByNumber.{extra_by_number, scheduling_by_number, assignment_by_number, bad_scheduling, bad_assignment};
 
@@ -18,11 +19,12 @@ pub fn bad_kinds(least: u32, most: u32, list: &Constraints) -> bool
 }
 
 // Whether the operands are those of a kind: the left one below `left`, the target of this case and below `target`,
-// or any number where it is `free`.
-fn operands_fit(c: ConstraintNumbers, left: usize, case: u32, free: bool, target: usize) -> bool
-    ensures { result ≡ (ltb c.left left && (eqb c.target_case case && (free || ltb c.target target))) }
+// or any number where there is none.
+fn operands_fit(c: ConstraintNumbers, left: usize, case: u32, target: Option<usize>) -> bool
+    ensures { result ≡ (ltb c.left left && (eqb c.target_case case && option_map_or (ltb c.target) target true)) }
 {
-    ((c.left as usize) < left) & ((c.target_case == case) & (free | ((c.target as usize) < target)))
+    let inside = target.map_or(true, |n| (c.target as usize) < n);
+    ((c.left as usize) < left) & ((c.target_case == case) & inside)
 }
 
 // Whether the extra is of the case that a scheduling constraint's kind reads.
@@ -36,18 +38,14 @@ fn extra_fits(c: ConstraintNumbers) -> bool
 fn scheduling_fits(choices: usize, slots: usize, c: ConstraintNumbers) -> bool
     ensures { result ≡ scheduling_by_number choices slots c }
 {
-    let limited = c.kind == 6;
-    let inside = c.kind < 3;
-    let left = if limited { slots } else { choices };
-    let target = if inside { slots } else { choices };
-    let case = if limited {
-        4
-    } else if inside {
-        1
+    let (left, case, target) = if c.kind == 6 {
+        (slots, 4, None)
+    } else if c.kind < 3 {
+        (choices, 1, Some(slots))
     } else {
-        2
+        (choices, 2, Some(choices))
     };
-    operands_fit(c, left, case, limited, target) & extra_fits(c)
+    operands_fit(c, left, case, target) & extra_fits(c)
 }
 
 // 9, of an assignment constraint: 65536 has a choice on the left, 65539 a chooser as its target.
@@ -58,7 +56,7 @@ fn assignment_fits(choosers: usize, choices: usize, c: ConstraintNumbers) -> boo
     let left = if c.kind == 65536 { choices } else { choosers };
     let target = if tied { choosers } else { choices };
     let case = if tied { 3 } else { 2 };
-    operands_fit(c, left, case, false, target)
+    operands_fit(c, left, case, Some(target))
 }
 
 // 9, where 8 applies to neither list.

@@ -17,11 +17,11 @@ pub fn bad_preferences(most: u32, preferences: &[u32]) -> bool
 pub fn bad_levels(most: u32, levels: &[u32]) -> bool
     ensures { result ≡ has_bad_levels most levels.now }
 {
-    if levels.len() == 0 {
+    let Some(last) = levels.last() else {
         return false;
-    }
+    };
     let n = levels.len() - 1;
-    (255 < n) | (most < levels[n]) | any_below(n, |i| levels[i + 1] <= levels[i])
+    (255 < n) | (most < *last) | any_below(n, |i| levels[i + 1] <= levels[i])
 }
 
 // 6.

@@ -9,8 +9,7 @@ use Rattle.counting.specs.FoldLaws.{fold_none, fold_suc, fold_more}
 use Rattle.counting.specs.Tests.{never}
 use Rattle.counting.specs.Written.{written}
 use Rattle.counting.specs.WrittenLaws.{written_append}
-use Rattle.model_buffers.specs.Stored.{filled, group_closed, groups_with}
-use Rattle.model_buffers.specs.declared.groups.Part.TheVariants.{Entries, Blocked}
+use Rattle.model_buffers.specs.Stored.{Filled, holding, group_closed, groups_with}
 use Rattle.model_buffers.specs.declared.groups.Groups.{Groups}
 use Rattle.edge_groups.specs.Groups.{each, all_there, present, flat, ends_from, store_groups}
 
@@ -82,11 +81,11 @@ module _ (n : ℕ) (f : ℕ → List ℕ) where
   there_each (suc m) = rw (fold_suc ◌&&◌ true m (λ i. all_there n (f i)), there_each m, fold_suc ◌++◌ [] m f, there_append)
 
 -- those of a list that are there were stored, as a group or as blocked
-module _ (n : ℕ) (g : Groups) (l : List ℕ) {g' : Groups} where
-  pub stored_group : all_there n l ≡ true → g' ≡ filled Entries g (present n l) → group_closed g' ≡ store_groups n g (l ∷ [])
+module _ (n : ℕ) (g : Groups) (l : List ℕ) {b : List ℕ} {u : ℕ} where
+  pub stored_group : all_there n l ≡ true → Filled g.entries.now g.entries_used (present n l) b u → group_closed (record g { entries = holding g.entries b; entries_used = u }) ≡ store_groups n g (l ∷ [])
   unfolding store_groups each ends_from written
-  stored_group t a = rw (a, present_all n l t, t) (simp (append-nil, add-zero))
+  stored_group t a = rw (a.buffer, a.used, present_all n l t, t) (simp (append-nil, add-zero))
 
-  pub stored_blocked : all_there n l ≡ false → g' ≡ filled Blocked g (present n l) → g' ≡ store_groups n g (l ∷ [])
+  pub stored_blocked : all_there n l ≡ false → Filled g.blocked.now g.blocked_used (present n l) b u → record g { blocked = holding g.blocked b; blocked_used = u } ≡ store_groups n g (l ∷ [])
   unfolding store_groups each ends_from written
-  stored_blocked t a = rw (a, t) (simp (append-nil, add-zero))
+  stored_blocked t a = rw (a.buffer, a.used, t) (simp (append-nil, add-zero))

@@ -9,11 +9,9 @@ use Rattle.counting.specs.Fold.{all_to, table_to}
 use Rattle.counting.specs.FoldLaws.{fold_none, fold_ext}
 use Rattle.counting.specs.Lists.{table_more}
 use Rattle.counting.specs.Tests.{bool_cases}
-use Rattle.model_buffers.specs.Stored.{filled, group_closed}
+use Rattle.model_buffers.specs.Stored.{Filled, holding, group_closed}
 use Rattle.model_buffers.specs.StoredLaws.{filled_none, filled_append}
 use Rattle.model_buffers.specs.declared.groups.Groups.{Groups}
-use Rattle.model_buffers.specs.declared.groups.Part.{Part}
-use Rattle.model_buffers.specs.declared.groups.Part.TheVariants.{Entries, Blocked}
 use Rattle.edge_groups.specs.Groups.{each, all_there, if_there, present, store_groups}
 use Rattle.edge_groups.specs.Stored.{each_append, there_each, stored_group, stored_blocked}
 
@@ -30,11 +28,11 @@ edge_list (Some e) = e ∷ []
 abbrev pub GivesSmall : (ℕ → Option ℕ → Type 0) → ℕ → Type 0
 GivesSmall gives n = (i : ℕ) → i < n → (e : Option ℕ) → gives i e → IfSome e (λ x. x < 65536)
 
--- of the first i of n edges those that are there were stored in a part
-pub record PutsThose (gives : ℕ → Option ℕ → Type 0) (n : ℕ) (part : Part) (g : Groups) (i : ℕ) (g' : Groups) : Type 0 where
+-- of the first i of n edges those that are there were stored in a buffer after the first u
+pub record PutsThose (gives : ℕ → Option ℕ → Type 0) (n : ℕ) (l : List ℕ) (u i : ℕ) (l' : List ℕ) (u' : ℕ) : Type 0 where
   pub edges : List ℕ
   pub few : length edges ≤ i
-  pub stored : g' ≡ filled part g edges
+  pub stored : Filled l u edges l' u'
   pub those : (count : ℕ) (name : ℕ → ℕ) → AgreesBelow gives n (one_there count name) → edges ≡ present count (table_to i name)
 
 list_there : (n : ℕ) (name : ℕ → ℕ) (i : ℕ) → edge_list (one_there n name i) ≡ if_there n (name i)
@@ -48,21 +46,21 @@ list_more : (count : ℕ) (name : ℕ → ℕ) (i : ℕ) (l : List ℕ) (e : Opt
 unfolding each
 list_more count name i l e p q = rw (p, q, table_more i name, each_append, list_there, append-nil)
 
-module _ {gives : ℕ → Option ℕ → Type 0} {n : ℕ} {part : Part} {g : Groups} where
-  pub puts_none : PutsThose gives n part g 0 g
+module _ {gives : ℕ → Option ℕ → Type 0} {n : ℕ} {l : List ℕ} {u : ℕ} where
+  pub puts_none : PutsThose gives n l u 0 l u
   unfolding each
   puts_none = record {
     edges = [];
     few = omega arith;
-    stored = sym (filled_none part g);
+    stored = filled_none l u;
     those = λ count name t. sym (ap (present count) (fold_none ◌++◌ [] (λ k. name k ∷ [])));
   }
 
-  pub puts_more : {i : ℕ} {g' g'' : Groups} (e : Option ℕ) → i < n → gives i e → g'' ≡ filled part g' (edge_list e) → PutsThose gives n part g i g' → PutsThose gives n part g (i + 1) g''
+  pub puts_more : {i : ℕ} {l' l'' : List ℕ} {u' u'' : ℕ} (e : Option ℕ) → i < n → gives i e → Filled l' u' (edge_list e) l'' u'' → PutsThose gives n l u i l' u' → PutsThose gives n l u (i + 1) l'' u''
   puts_more {i = i} e h q s p = record {
     edges = p.edges ++ edge_list e;
     few = omega (arith, length-append p.edges (edge_list e), list_few e, p.few);
-    stored = s ∙ rw p.stored (sym (filled_append part g p.edges (edge_list e)));
+    stored = filled_append p.stored s;
     those = λ count name t. list_more count name i p.edges e (p.those count name t) (t i h e q);
   }
 
@@ -76,9 +74,9 @@ module _ (count : ℕ) (name : ℕ → ℕ) (n : ℕ) {all : Bool} (a : all ≡ 
   unfolding all_there
   all_named = a ∙ fold_ext ◌&&◌ true n (λ i. ltb (name i) count) (λ i. all_there count (name i ∷ [])) (λ k h. sym (and-true (ltb (name k) count))) ∙ there_each count (λ i. name i ∷ []) n
 
-  module _ {gives : ℕ → Option ℕ → Type 0} (t : AgreesBelow gives n (one_there count name)) {g g' : Groups} where
-    pub together_group : all ≡ true → PutsThose gives n Entries g n g' → group_closed g' ≡ store_groups count g (table_to n name ∷ [])
+  module _ {gives : ℕ → Option ℕ → Type 0} (t : AgreesBelow gives n (one_there count name)) (g : Groups) (l : List ℕ) (u : ℕ) where
+    pub together_group : all ≡ true → PutsThose gives n g.entries.now g.entries_used n l u → group_closed (record g { entries = holding g.entries l; entries_used = u }) ≡ store_groups count g (table_to n name ∷ [])
     together_group e p = stored_group count g (table_to n name) (sym all_named ∙ e) (rw (p.those count name t) at p.stored)
 
-    pub together_blocked : all ≡ false → PutsThose gives n Blocked g n g' → g' ≡ store_groups count g (table_to n name ∷ [])
+    pub together_blocked : all ≡ false → PutsThose gives n g.blocked.now g.blocked_used n l u → record g { blocked = holding g.blocked l; blocked_used = u } ≡ store_groups count g (table_to n name ∷ [])
     together_blocked e p = stored_blocked count g (table_to n name) (sym all_named ∙ e) (rw (p.those count name t) at p.stored)

@@ -4,6 +4,7 @@ use Rattle.std.proofs.Common.{sym, ap, ◌∙◌, add-sub_cancel, arith, ne_eqb}
 use Rattle.std.specs.Int.Signed.{lt_z, ◌≤ℤ◌}
 use Rattle.std.proofs.lemmas.Int.{ints}
 use Rattle.std.proofs.lemmas.Bool.{not-false}
+use Rattle.std.proofs.lemmas.List.{get_or-take, length-take-le}
 use Rattle.counting.specs.Fold.{any_to}
 use Rattle.counting.specs.FoldLaws.{fold_none}
 use Rattle.counting.specs.Signed.{eq_z_same, same_eq_z}
@@ -85,6 +86,12 @@ start_none ends = refl
 pub start_more : (ends : List ℕ) (g : ℕ) → get_or ends g 0 ≡ start_at ends (g + 1)
 unfolding start_at
 start_more ends g = rw (ne_eqb (g + 1) 0 (λ e. omega arith), add-sub_cancel)
+
+-- the ends of the first groups, which a walk over them reads
+pub end_is : {groups : ℕ} {entries ends : List ℕ} {size : ℕ} → Grouped groups entries ends size → (g : ℕ) → g < length (take groups ends) → (g < groups) × (get_or (take groups ends) g 0 ≡ get_or ends g 0)
+end_is {groups = groups} {ends = ends} h g l =
+    let b : g < groups = omega (arith, length-take-le groups ends h.ends_long) in
+    (b, get_or-take groups ends g 0 b)
 
 pub part_is : (entries ends : List ℕ) (g : ℕ) {a : ℕ} → a ≡ start_at ends g → take (get_or ends g 0 - a) (drop a entries) ≡ part_of entries ends g
 unfolding part_of

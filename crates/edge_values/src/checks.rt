@@ -25,10 +25,10 @@ fn is_uneven(group: &[u16], values: &[i32]) -> bool
     requires { Naming (length group.now) group.now (length values.now) }
     ensures { result ≡ is_uneven values.now group.now }
 {
-    if group.is_empty() {
+    let Some(first) = group.first() else {
         return false;
-    }
-    let first = values[group[0] as usize];
+    };
+    let first = values[*first as usize];
     counting::any_below(group.len(), |i| values[group[i] as usize] != first)
 }
 
@@ -62,11 +62,10 @@ impl ProposedValues<'_, '_> {
         ensures { result ≡ any_to self.now.counts.groups (uneven_part self.now.values.now self.now.model.now.entries.now self.now.model.now.ends.now) }
     {
         let model = self.model;
-        let ends = &*model.ends;
         let mut bad = false;
         let mut start = 0;
-        for g in 0..self.counts.groups {
-            let stop = ends[g] as usize;
+        for end in &model.ends[..self.counts.groups] {
+            let stop = *end as usize;
             bad |= is_uneven(&model.entries[start..stop], self.values);
             start = stop;
         }

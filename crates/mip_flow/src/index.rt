@@ -38,7 +38,7 @@ impl EdgeIndex {
         ensures small { IfSome result (λ e. e < 65536) }
     {
         let e = self.numbers[32 * c + k] as usize;
-        if e < self.count { Some(e) } else { None }
+        (e < self.count).then_some(e)
     }
 
     // The edge of chooser c to choice k has the next number.

@@ -1,11 +1,9 @@
 -- What stands in the lent buffers of a model's edges, groups and blocked edges: SPEC 6.12. Definitions only.
-use Rattle.std.specs.Prelude.{ℕ, ◌+◌, ◌<◌, List, [], ◌∷◌, ℤ, length, set}
+use Rattle.std.specs.Prelude.{ℕ, ◌+◌, ◌<◌, ◌≡◌, List, ℤ, length, set}
 use Rattle.std.specs.Borrow.{MutBor}
 use Rattle.counting.specs.Written.{written}
 use Rattle.model_buffers.specs.declared.edges.Edges.{Edges}
 use Rattle.model_buffers.specs.declared.groups.Groups.{Groups}
-use Rattle.model_buffers.specs.declared.groups.Part.{Part}
-use Rattle.model_buffers.specs.declared.groups.Part.TheVariants.{Entries, Blocked}
 
 -- the same lent buffer, with l in it
 abbrev pub holding : {A : Type 0} → MutBor (List A) → List A → MutBor (List A)
@@ -15,19 +13,10 @@ holding r l = record r { now = l }
 abbrev pub wrote : {A : Type 0} → MutBor (List A) → ℕ → List A → MutBor (List A)
 wrote r at vs = holding r (written r.now at vs)
 
--- how much of a part of groups is used, and how long its buffer is
-abbrev pub part_used : Part → Groups → ℕ
-part_used Entries g = g.entries_used
-part_used Blocked g = g.blocked_used
-
-abbrev pub part_size : Part → Groups → ℕ
-part_size Entries g = length g.entries.now
-part_size Blocked g = length g.blocked.now
-
--- these edges were stored in a part after those that were there
-abbrev pub filled : Part → Groups → List ℕ → Groups
-filled Entries g xs = record g { entries = wrote g.entries g.entries_used xs; entries_used = g.entries_used + length xs }
-filled Blocked g xs = record g { blocked = wrote g.blocked g.blocked_used xs; blocked_used = g.blocked_used + length xs }
+-- these numbers were stored in a buffer after the first n
+pub record Filled (l : List ℕ) (n : ℕ) (xs : List ℕ) (l' : List ℕ) (n' : ℕ) : Type 0 where
+  pub buffer : l' ≡ written l n xs
+  pub used : n' ≡ n + length xs
 
 -- the entries so far end a group
 abbrev pub group_closed : Groups → Groups

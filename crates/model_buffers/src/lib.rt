@@ -13,7 +13,7 @@ ghost use Rattle.model_buffers.specs.Lengths.{short_edges, short_groups, short_b
 
 pub use buffers::LentBuffers;
 pub use edges::Edges;
-pub use groups::{Groups, Part};
+pub use groups::{Groups, push};
 use input_data::{Day, FixedLimits};
 
 // How long the eight lent buffers of a model are.

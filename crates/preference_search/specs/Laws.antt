@@ -1,5 +1,5 @@
 -- Laws of the steps: the start, the middle, what narrows a range; two schedules as the library compares them; parts of lent bytes. Assumes nothing.
-use Rattle.std.specs.Prelude.{ℕ, ◌+◌, ◌-◌, ◌<◌, ◌≤◌, ◌≡◌, refl, min, Bool, true, false, ◌&&◌, List, ◌≢◌, eqb, leb, Some, None, length, take, drop, get_or}
+use Rattle.std.specs.Prelude.{Option, unwrap_or, ℕ, ◌+◌, ◌-◌, ◌<◌, ◌≤◌, ◌≡◌, refl, min, Bool, true, false, ◌&&◌, List, ◌≢◌, eqb, leb, Some, None, length, take, drop, get_or}
 use Rattle.std.proofs.Common.{sym, ap, ◌∙◌, arith, length-drop, length-take-le, le-ltb, get_or-take, ext_get_or, eqb-true, eq-eqb}
 use Rattle.std.proofs.lemmas.Bool.{eqb-false, not-true, not-false}
 use Rattle.std.proofs.lemmas.Slice.Eq.{bytes_eq-Decides}
@@ -36,16 +36,13 @@ pub record Ranged (s : Search) (levels : List ℕ) : Type 0 where
   pub asks : s.asks ≤ 256
 
 -- the start, as the library finds it
-pub start_some : (levels : List ℕ) (bound i : ℕ) → position (leb bound) levels ≡ Some i → i ≡ start_of levels bound
+pub start_is : (levels : List ℕ) (bound : ℕ) (o : Option ℕ) → o ≡ position (leb bound) levels → unwrap_or o (length levels - 1) ≡ start_of levels bound
 unfolding start_of
-start_some levels bound i e = let q = position-Some (leb bound) levels i 0 e in omega (arith, q.0, first_at (length levels) (reaches levels bound) i q.0 q.2 q.1)
-
-pub start_none : (levels : List ℕ) (bound : ℕ) → position (leb bound) levels ≡ None → length levels - 1 ≡ start_of levels bound
-unfolding start_of
-start_none levels bound e =
+start_is levels bound (Some i) e = let q = position-Some (leb bound) levels i 0 (sym e) in omega (arith, q.0, first_at (length levels) (reaches levels bound) i q.0 q.2 q.1)
+start_is levels bound None e =
     let p = leb bound in
     lt_cases (position_or_len p levels) (length levels)
-    (λ h t. let z : Some (position_or_len p levels) ≡ None = rw t at e in cc)
+    (λ h t. let z : Some (position_or_len p levels) ≡ None = rw t at (sym e) in cc)
     (λ h t. omega (arith, first_none (length levels) (reaches levels bound) (λ k l. fails_before_first p levels k 0 (omega arith))))
 
 pub start_most : (levels : List ℕ) (bound : ℕ) → start_of levels bound ≤ length levels - 1

@@ -1,5 +1,5 @@
 // The parts of a step: where a search starts, what an answer teaches, what is left of the range.
-ghost use Rattle.std.specs.Prelude.{position, leb, true, ◌≡◌, ◌<◌, ◌≤◌, length};
+ghost use Rattle.std.specs.Prelude.{position, leb, true, false, ◌≡◌, ◌<◌, ◌≤◌, length};
 ghost use Rattle.assignment.specs.Calls.{seats};
 ghost use Rattle.preference_search.specs.Answered.{range_after, told_by};
 ghost use Rattle.preference_search.specs.Laws.{is_infeasible};
@@ -94,7 +94,7 @@ impl Range {
 
     // What the answer at m leaves of it.
     pub fn after(self, m: u32, told: &Told) -> Range
-        requires { (m < 256) × (is_feasible (told_by told.now).result ≡ true → 0 < m) }
+        requires { (is_feasible (told_by told.now).result ≡ true → 0 < m) × (is_feasible (told_by told.now).result ≡ false → m < 256) }
         ensures { result ≡ range_after self m (told_by told.now).result }
     {
         match told {
@@ -115,13 +115,10 @@ fn first_level(levels: &[u32], bound: u32) -> Option<usize>
 }
 
 // That, else the last index.
-#[tactic(auto, using(crate::specs::Laws::start_some, crate::specs::Laws::start_none))]
+#[tactic(auto, using(crate::specs::Laws::start_is))]
 pub fn start_of(levels: &[u32], bound: u32) -> usize
     requires { (0 < length levels.now) × (length levels.now ≤ 256) }
     ensures { result ≡ start_of levels.now bound }
 {
-    match first_level(levels, bound) {
-        Some(i) => i,
-        None => levels.len() - 1,
-    }
+    first_level(levels, bound).unwrap_or(levels.len() - 1)
 }

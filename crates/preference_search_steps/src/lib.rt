@@ -16,52 +16,66 @@ use preference_search::{
 use scheduling::Scheduling;
 pub use setting::Setting;
 
-// Where a search stands: how many asks it has made, and its schedule.
+// Where a search stands: how many asks it has made, its schedule, what it knows and what it remembers.
 #[derive(Clone, Copy)]
 pub struct Standing {
     pub asks: u32,
     pub entries: [u8; 32],
-}
-
-// Remembers a plan that was found and is optimal.
-fn remember(
-    greedy: bool,
-    entries: [u8; 32],
-    known: Known,
-    cached: CachedAssignment,
-) -> CachedAssignment
-    ensures { result ≡ remembered greedy entries known cached }
-{
-    if known.found & known.optimal {
-        let plan = known.plan; // the prover takes an array field into a literal by a variable only
-        return CachedAssignment {
-            there: true,
-            greedy,
-            schedule: Scheduling { entries },
-            plan,
-        };
-    }
-    cached
+    pub known: Known,
+    pub cached: CachedAssignment,
 }
 
 impl Standing {
     // Before the first ask.
-    pub fn new(entries: [u8; 32]) -> Standing
-        ensures { (result.asks ≡ 0) × (result.entries ≡ entries) }
+    pub fn new(entries: [u8; 32], known: Known, cached: CachedAssignment) -> Standing
+        ensures { (result.asks ≡ 0) × (result.entries ≡ entries) × (result.known ≡ known) × (result.cached ≡ cached) }
     {
-        Standing { asks: 0, entries }
+        Standing {
+            asks: 0,
+            entries,
+            known,
+            cached,
+        }
     }
 
-    fn search(
-        self,
-        asking: bool,
-        setting: Setting,
-        known: Known,
-        cached: CachedAssignment,
-    ) -> Search
-        ensures { result ≡ search_at asking setting self.asks self.entries known cached }
+    // Of a lent search, with what it knows now.
+    pub fn of(search: &LentSearch, entries: [u8; 32], known: Known) -> Standing
+        ensures { (result.asks ≡ search.now.asks) × (result.entries ≡ entries) × (result.known ≡ known) × (result.cached ≡ search.now.cached) }
     {
-        let Standing { asks, entries } = self;
+        Standing {
+            asks: search.asks(),
+            entries,
+            known,
+            cached: search.cached().copied(),
+        }
+    }
+
+    // Remembers a plan that was found and is optimal.
+    fn remember(self, greedy: bool) -> CachedAssignment
+        ensures { result ≡ remembered greedy self.entries self.known self.cached }
+    {
+        if self.known.found & self.known.optimal {
+            // The prover takes an array field into a literal by a variable only.
+            let (entries, plan) = (self.entries, self.known.plan);
+            return CachedAssignment {
+                there: true,
+                greedy,
+                schedule: Scheduling { entries },
+                plan,
+            };
+        }
+        self.cached
+    }
+
+    fn search(self, asking: bool, setting: Setting) -> Search
+        ensures { result ≡ search_at asking setting self.asks self.entries self.known self.cached }
+    {
+        let Standing {
+            asks,
+            entries,
+            known,
+            cached,
+        } = self;
         let Range { start, low, high } = setting.range();
         let Known {
             found,
@@ -86,9 +100,9 @@ impl Standing {
     }
 
     // An ask. It is counted.
-    pub fn ask(self, setting: Setting, ask: Ask, known: Known, cached: CachedAssignment) -> Asked
+    pub fn ask(self, setting: Setting, ask: Ask) -> Asked
         requires { self.asks < u32.MAX }
-        ensures { asked_by result ≡ search_answer ask.level ask.index (search_at true setting (self.asks + 1) self.entries known cached) }
+        ensures { asked_by result ≡ search_answer ask.level ask.index (search_at true setting (self.asks + 1) self.entries self.known self.cached) }
     {
         let counted = Standing {
             asks: self.asks + 1,
@@ -96,50 +110,47 @@ impl Standing {
         };
         Asked {
             ask: Some(ask),
-            search: counted.search(true, setting, known, cached),
+            search: counted.search(true, setting),
         }
     }
 
     // An end at which nothing is put in place of what is remembered.
-    pub fn rest(self, setting: Setting, known: Known, cached: CachedAssignment) -> Asked
-        ensures { asked_by result ≡ search_answer 0 0 (search_at false setting self.asks self.entries known cached) }
+    pub fn rest(self, setting: Setting) -> Asked
+        ensures { asked_by result ≡ search_answer 0 0 (search_at false setting self.asks self.entries self.known self.cached) }
     {
         Asked {
             ask: None,
-            search: self.search(false, setting, known, cached),
+            search: self.search(false, setting),
         }
     }
 
     // The end of a search.
-    pub fn end(self, setting: Setting, known: Known, cached: CachedAssignment) -> Asked
-        ensures { asked_by result ≡ over_at setting self.asks self.entries known cached }
+    pub fn end(self, setting: Setting) -> Asked
+        ensures { asked_by result ≡ over_at setting self.asks self.entries self.known self.cached }
     {
-        let kept = remember(setting.is_greedy(), self.entries, known, cached);
-        self.rest(setting, known, kept)
+        let ended = Standing {
+            cached: self.remember(setting.is_greedy()),
+            ..self
+        };
+        ended.rest(setting)
     }
 
     // The next ask of a range, or its end.
     #[tactic(auto, using(preference_search::specs::Laws::middle_most), unfolding(preference_search::specs::Steps::next))]
-    pub fn go_on(
-        self,
-        levels: &[u32],
-        range: Range,
-        known: Known,
-        cached: CachedAssignment,
-    ) -> Asked
+    pub fn go_on(self, levels: &[u32], range: Range) -> Asked
         requires { (range.high < length levels.now) × (length levels.now ≤ 256) × (self.asks ≤ 256) }
-        ensures { asked_by result ≡ next levels.now self.asks range.start range.low range.high self.entries known cached }
+        ensures { asked_by result ≡ next levels.now self.asks range.start range.low range.high self.entries self.known self.cached }
     {
         let setting = Setting::Levels(Some(range));
         if range.high < range.low {
-            return self.end(setting, known, cached);
+            return self.end(setting);
         }
         let m = range.middle();
         let ask = Ask {
             level: levels[m as usize],
             index: m,
         };
-        self.ask(setting, ask, known, cached)
+        self.ask(setting, ask)
     }
 }
 
@@ -165,16 +176,8 @@ pub fn ask_again(
         level: levels[m as usize],
         index: m,
     };
-    let standing = Standing {
-        asks: search.asks(),
-        entries,
-    };
-    standing.ask(
-        Setting::Levels(Some(range)),
-        ask,
-        search.known(mark),
-        search.cached().copied(),
-    )
+    let standing = Standing::of(search, entries, search.known(mark));
+    standing.ask(Setting::Levels(Some(range)), ask)
 }
 
 // What is remembered: optimal, without an ask and without a level.
@@ -184,7 +187,7 @@ pub fn recall(seats: usize, greedy: bool, entries: [u8; 32], cached: &LentCached
         (found_at seats 0 cached.now.plan true) cached.now) }
 {
     let known = Known::found_at(seats, 0, cached.plan(), true);
-    Standing::new(entries).rest(Setting::without_range(greedy), known, cached.copied())
+    Standing::new(entries, known, cached.copied()).rest(Setting::without_range(greedy))
 }
 
 // The search over levels; without levels it ends at once.
@@ -193,11 +196,9 @@ pub fn begin_levels(levels: &[u32], bound: u32, entries: [u8; 32], cached: &Lent
     requires { length levels.now ≤ 256 }
     ensures { asked_by result ≡ begun_levels levels.now bound entries cached.now }
 {
-    let known = Known::nothing(true);
-    let held = cached.copied();
-    let standing = Standing::new(entries);
+    let standing = Standing::new(entries, Known::nothing(true), cached.copied());
     if levels.is_empty() {
-        return standing.rest(Setting::Levels(None), known, held);
+        return standing.rest(Setting::Levels(None));
     }
     let start = start_of(levels, bound) as u32;
     let range = Range {
@@ -205,5 +206,5 @@ pub fn begin_levels(levels: &[u32], bound: u32, entries: [u8; 32], cached: &Lent
         low: start,
         high: (levels.len() - 1) as u32,
     };
-    standing.go_on(levels, range, known, held)
+    standing.go_on(levels, range)
 }

@@ -20,28 +20,43 @@ use Rattle.input_data.specs.Bytes.{day_of}
 use Rattle.input_data.specs.Read.{day_read}
 use Rattle.input_data.specs.ReadLaws.{read_ok}
 use Rattle.assignment.specs.Inside.{row_end}
+use Rattle.assignment.specs.Rows.{SeatsOf}
+use Rattle.assignment.specs.declared.rows.Seats.{Seats}
 use Rattle.assignment.specs.Laws.{plan_number_lem, exit_refused, unread, plan_read}
 use Rattle.rosters.specs.Calls.{short_roster, roster_answer}
 use Rattle.rosters.specs.Answered.{roster_answered}
-use Rattle.rosters.specs.Rows.{rows_of, row_of, run_of, chooser_of, roster_of, roster_number, is_outside, Rostered}
+use Rattle.rosters.specs.Rows.{row_of, run_of, roster_of, roster_number, is_outside, Rostered}
 use Rattle.rosters.specs.Filled.{filled_with, pushed, Lists}
 use Rattle.rosters.specs.declared.roster.Filled.{Filled}
 use Rattle.rosters.specs.declared.roster.Roster.{Roster}
 use Rattle.rosters.specs.declared.roster.Roster.TheVariants.{ChoosersOf, ChoicesOf}
 use Rattle.rosters.specs.declared.roster.Row.{Row}
 
--- a row of the plan, and room for what it adds
-pub record RowIn (slots : ℕ) (plan : List ℕ) (r : Row) (at size : ℕ) : Type 0 where
-  pub inside : r.base + slots ≤ length plan
-  pub room : at + length (run_of slots plan r) ≤ size
+-- how many may be listed, by the seats
+abbrev pub rows_in : Roster → Seats → ℕ
+rows_in (ChoosersOf k) s = s.choosers
+rows_in (ChoicesOf c) s = s.choices
 
--- the rows of a roster, and room for all that they add
-pub record RosterIn (of : Roster) (d : InputData) (plan : List ℕ) (size : ℕ) : Type 0 where
-  pub few : rows_of of d ≤ 64
-  pub short : d.slots ≤ 8
-  pub chooser : chooser_of of < 64
-  pub inside : (i : ℕ) → i < rows_of of d → (row_of of d.slots i).base + d.slots ≤ length plan
-  pub room : length (roster_of of d plan) ≤ size
+-- whose row the i-th of them is
+abbrev pub chooser_in : Roster → ℕ → ℕ
+chooser_in (ChoosersOf k) i = i
+chooser_in (ChoicesOf c) i = c
+
+-- what the rows list
+abbrev pub listed : Roster → Seats → List ℕ
+listed (ChoosersOf k) s = choosers_ordered s.choosers s.slots s.plan.now k
+listed (ChoicesOf c) s = choices_ordered s.choices s.slots s.plan.now c
+
+-- a row of the plan, and room for what it adds
+pub record RowIn (s : Seats) (r : Row) (at size : ℕ) : Type 0 where
+  pub inside : r.base + s.slots ≤ length s.plan.now
+  pub room : at + length (run_of s.slots s.plan.now r) ≤ size
+
+-- the rows of a roster are choosers', and there is room for all that they add
+pub record RosterIn (of : Roster) (s : Seats) (size : ℕ) : Type 0 where
+  pub few : rows_in of s ≤ 64
+  pub chooser : (i : ℕ) → i < rows_in of s → chooser_in of i < s.choosers
+  pub room : length (listed of s) ≤ size
 
 -- ---- one value
 
@@ -101,9 +116,9 @@ abbrev pub seat_of : List ℕ → Row → ℕ → List ℕ
 seat_of plan r s = seat_once plan r.base r.choice r.value s
 
 -- a seat that is the choice: its value has room, and is stored
-pub seat_room : (slots : ℕ) (plan : List ℕ) (r : Row) {at s to : ℕ} {d₀ d : List ℕ} → RowIn slots plan r at (length d₀) → s < slots → Put (one_buffer ℕ) d₀ at (join_to s (seat_of plan r)) d to → entry_at plan (r.base + s) ≡ r.choice → to < length d
+pub seat_room : (seats : Seats) (r : Row) {at s to : ℕ} {d₀ d : List ℕ} → RowIn seats r at (length d₀) → s < seats.slots → Put (one_buffer ℕ) d₀ at (join_to s (seat_of seats.plan.now r)) d to → entry_at seats.plan.now (r.base + s) ≡ r.choice → to < length d
 unfolding row
-seat_room slots plan r {s = s} q h p e = omega (arith, rw (eq-eqb (entry_at plan (r.base + s)) r.choice e) at (run_room (seat_of plan r) h p q.room))
+seat_room seats r {s = s} q h p e = omega (arith, rw (eq-eqb (entry_at seats.plan.now (r.base + s)) r.choice e) at (run_room (seat_of seats.plan.now r) h p q.room))
 
 pub seat_more : (plan : List ℕ) (r : Row) (s : ℕ) {at to : ℕ} {d₀ d : List ℕ} → Put (one_buffer ℕ) d₀ at (join_to s (seat_of plan r)) d to → entry_at plan (r.base + s) ≡ r.choice → Put (one_buffer ℕ) d₀ at (join_to (s + 1) (seat_of plan r)) (set d to r.value) (to + 1)
 seat_more plan r s {to = to} {d = d} p e = put_step (seat_of plan r) p (put_one r.value d to (eq-eqb (entry_at plan (r.base + s)) r.choice e))
@@ -121,44 +136,53 @@ seat_passed plan r s p e = record { put = seat_skip plan r s p.put e; same = p.s
 -- ---- a roster
 
 -- what the i-th row adds
-abbrev pub run_at : Roster → InputData → List ℕ → ℕ → List ℕ
-run_at of d plan i = run_of d.slots plan (row_of of d.slots i)
+abbrev pub run_at : Roster → Seats → ℕ → List ℕ
+run_at of s i = run_of s.slots s.plan.now (row_of of s.slots i)
 
-pub runs : (of : Roster) (d : InputData) (plan : List ℕ) → join_to (rows_of of d) (run_at of d plan) ≡ roster_of of d plan
+pub runs : (of : Roster) (s : Seats) → join_to (rows_in of s) (run_at of s) ≡ listed of s
 unfolding choosers_ordered choices_ordered
-runs (ChoosersOf k) d plan = refl
-runs (ChoicesOf c) d plan = refl
+runs (ChoosersOf k) s = refl
+runs (ChoicesOf c) s = refl
+
+-- each is the row of a chooser
+row_base : (of : Roster) (slots i : ℕ) → (row_of of slots i).base ≡ chooser_in of i * slots
+row_base (ChoosersOf k) slots i = refl
+row_base (ChoicesOf c) slots i = refl
 
 -- the next row has room
-pub row_in : (of : Roster) (d : InputData) (plan : List ℕ) {i at slots : ℕ} {r : Row} {b₀ b : List ℕ} → RosterIn of d plan (length b₀) → i < rows_of of d → Put (one_buffer ℕ) b₀ 0 (join_to i (run_at of d plan)) b at → slots ≡ d.slots → r ≡ row_of of slots i → RowIn slots plan r at (length b)
-row_in of d plan {i = i} p h q e f = rw (f, e) (record { inside = p.inside i h; room = run_room (run_at of d plan) h q (omega (arith, ap length (runs of d plan), p.room)) })
+pub row_in : (of : Roster) (s : Seats) {i at : ℕ} {r : Row} {b₀ b : List ℕ} → RosterIn of s (length b₀) → i < rows_in of s → Put (one_buffer ℕ) b₀ 0 (join_to i (run_at of s)) b at → r ≡ row_of of s.slots i → RowIn s r at (length b)
+row_in of s {i = i} p h q e = rw e (record {
+  inside = omega (arith, row_base of s.slots i, row_end s.slots (p.chooser i h), s.inside.inside);
+  room = run_room (run_at of s) h q (omega (arith, ap length (runs of s), p.room));
+})
 
-pub rows_more : (of : Roster) (d : InputData) (plan : List ℕ) (i : ℕ) {at to slots : ℕ} {r : Row} {b₀ b b' : List ℕ} → Put (one_buffer ℕ) b₀ 0 (join_to i (run_at of d plan)) b at → slots ≡ d.slots → r ≡ row_of of slots i → Put (one_buffer ℕ) b at (run_of slots plan r) b' to → Put (one_buffer ℕ) b₀ 0 (join_to (i + 1) (run_at of d plan)) b' to
-rows_more of d plan i p e f q = put_step (run_at of d plan) p (rw (f, e) at q)
+pub rows_more : (of : Roster) (s : Seats) (i : ℕ) {at to : ℕ} {r : Row} {b₀ b b' : List ℕ} → Put (one_buffer ℕ) b₀ 0 (join_to i (run_at of s)) b at → r ≡ row_of of s.slots i → Put (one_buffer ℕ) b at (run_of s.slots s.plan.now r) b' to → Put (one_buffer ℕ) b₀ 0 (join_to (i + 1) (run_at of s)) b' to
+rows_more of s i p e q = put_step (run_at of s) p (rw e at q)
 
-pub rows_all : (of : Roster) (d : InputData) (plan : List ℕ) (n i : ℕ) {at : ℕ} {b₀ b : List ℕ} → n ≡ rows_of of d → n ≤ i → i ≤ n → Put (one_buffer ℕ) b₀ 0 (join_to i (run_at of d plan)) b at → Put (one_buffer ℕ) b₀ 0 (roster_of of d plan) b at
-rows_all of d plan n i e h g p = put_eq (runs of d plan) (put_all (run_at of d plan) (omega arith) p)
+pub rows_all : (of : Roster) (s : Seats) (n i : ℕ) {at : ℕ} {b₀ b : List ℕ} → n ≡ rows_in of s → n ≤ i → i ≤ n → Put (one_buffer ℕ) b₀ 0 (join_to i (run_at of s)) b at → Put (one_buffer ℕ) b₀ 0 (listed of s) b at
+rows_all of s n i e h g p = put_eq (runs of s) (put_all (run_at of s) (omega arith) p)
+
+-- the rows of a day's seats list its roster
+pub listed_is : (of : Roster) {d : InputData} {plan : List ℕ} {s : Seats} → SeatsOf d plan s → listed of s ≡ roster_of of d plan
+listed_is (ChoosersOf k) q = rw (q.choosers, q.slots, q.bytes) refl
+listed_is (ChoicesOf c) q = rw (q.choices, q.slots, q.bytes) refl
 
 -- accepted input has room for it
-pub roster_in : (l : Limits) (d : InputData) (plan : List ℕ) (of : Roster) (size : ℕ) → Within l → roster_number l d plan of size ≡ 0 → RosterIn of d plan size
-roster_in l d plan (ChoosersOf k) size w e =
+pub roster_in : (l : Limits) (d : InputData) (plan : List ℕ) (of : Roster) (size : ℕ) (s : Seats) → Within l → roster_number l d plan of size ≡ 0 → SeatsOf d plan s → RosterIn of s size
+roster_in l d plan (ChoosersOf k) size s w e q =
     let p = plan_number_lem l d plan (short_roster l size) (leb d.choices k) w e in
     record {
-      few = omega (arith, p.day.choosers, w.choosers);
-      short = omega (arith, p.day.slots, w.slots);
-      chooser = omega arith;
-      inside = λ i h. omega (arith, row_end d.slots h, p.plan_in);
-      room = omega (arith, choosers_most d.choosers d.slots plan k, p.seats_in, ltb-false size (roster_length l) p.long);
+      few = s.inside.few;
+      chooser = λ i h. h;
+      room = omega (arith, ap length (listed_is (ChoosersOf k) q), choosers_most d.choosers d.slots plan k, p.seats_in, ltb-false size (roster_length l) p.long);
     }
-roster_in l d plan (ChoicesOf c) size w e =
+roster_in l d plan (ChoicesOf c) size s w e q =
     let p = plan_number_lem l d plan (short_roster l size) (leb d.choosers c) w e in
     let h : c < d.choosers = leb-false d.choosers c p.inside in
     record {
-      few = omega (arith, p.day.choices, w.choices);
-      short = omega (arith, p.day.slots, w.slots);
-      chooser = omega (arith, h, p.day.choosers, w.choosers);
-      inside = λ i b. omega (arith, row_end d.slots h, p.plan_in);
-      room = omega (arith, choices_most d.choices d.slots plan c, row_end d.slots h, p.seats_in, ltb-false size (roster_length l) p.long);
+      few = omega (arith, q.choices, p.day.choices, w.choices);
+      chooser = λ i b. omega (arith, q.choosers, h);
+      room = omega (arith, ap length (listed_is (ChoicesOf c) q), choices_most d.choices d.slots plan c, row_end d.slots h, p.seats_in, ltb-false size (roster_length l) p.long);
     }
 
 -- ---- what a call leaves
@@ -175,7 +199,8 @@ module _ (l : Limits) (day plan : List ℕ) (of : Roster) (before : List ℕ) wh
   pub roster_refused : (d : InputData) {T : Type 0} (q : Result T Refusal) (res : Result ℕ Refusal) (r : Refusal) → q ≡ Err r → IsErrAnd res (λ y. y ≡ r) → Ok d ≡ day_read day → outcome q ≡ roster_number l d plan of (length before) → Rostered l day plan of before before (roster_answered res)
   roster_refused d q res r f h e p = refuses res r h (plan_read l day plan (short_roster l (length before)) (is_outside of) e (rw f at p))
 
-  pub roster_done : (d : InputData) {at : ℕ} {after : List ℕ} → Ok d ≡ day_read day → 0 ≡ roster_number l d plan of (length before) → Put (one_buffer ℕ) before 0 (roster_of of d plan) after at → Rostered l day plan of before after (roster_answer 0 at)
-  roster_done d e p q =
+  pub roster_done : (d : InputData) {s : Seats} {at : ℕ} {after : List ℕ} → Ok d ≡ day_read day → 0 ≡ roster_number l d plan of (length before) → SeatsOf d plan s → Put (one_buffer ℕ) before 0 (listed of s) after at → Rostered l day plan of before after (roster_answer 0 at)
+  roster_done d e p t v =
+      let q = put_eq (listed_is of t) v in
       let z : lent_number l day false (roster_number l (day_of day) plan of (length before)) ≡ 0 = sym (plan_read l day plan (short_roster l (length before)) (is_outside of) e p) in
       record { leaves = rw (z, ← (read_ok day e).1) (record { gives = ap (roster_answer 0) (q.count ∙ zero-add _); leaves = q.holds }) }

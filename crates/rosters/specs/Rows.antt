@@ -16,11 +16,6 @@ abbrev pub is_outside : Roster → InputData → Bool
 is_outside (ChoosersOf k) d = leb d.choices k
 is_outside (ChoicesOf c) d = leb d.choosers c
 
--- how many may be listed
-abbrev pub rows_of : Roster → InputData → ℕ
-rows_of (ChoosersOf k) d = d.choosers
-rows_of (ChoicesOf c) d = d.choices
-
 -- the row of the i-th of them
 abbrev pub row_of : Roster → ℕ → ℕ → Row
 row_of (ChoosersOf k) slots i = record { base = i * slots; choice = k; value = i }
@@ -29,11 +24,6 @@ row_of (ChoicesOf c) slots i = record { base = c * slots; choice = i; value = i 
 -- what a row adds
 abbrev pub run_of : ℕ → List ℕ → Row → List ℕ
 run_of slots plan r = row slots plan r.base r.choice r.value
-
--- the chooser that is asked about, if one is
-abbrev pub chooser_of : Roster → ℕ
-chooser_of (ChoosersOf k) = 0
-chooser_of (ChoicesOf c) = c
 
 abbrev pub roster_of : Roster → InputData → List ℕ → List ℕ
 roster_of (ChoosersOf k) d plan = choosers_ordered d.choosers d.slots plan k

@@ -3,10 +3,10 @@ ghost use Rattle.std.specs.Prelude.{◌≡◌, ◌<◌, ◌≤◌, length};
 ghost use Rattle.counting.specs.WrittenLaws.{Put, one_buffer};
 ghost use Rattle.rosters.specs.Filled.{pushed, Lists};
 ghost use Rattle.rosters.specs.Answered.{roster_answered};
-ghost use Rattle.rosters.specs.Rows.{rows_of, row_of, run_of, roster_of, is_outside, chooser_of, Rostered};
-ghost use Rattle.rosters.specs.Laws.{RowIn, RosterIn};
+ghost use Rattle.rosters.specs.Rows.{row_of, run_of, is_outside, Rostered};
+ghost use Rattle.rosters.specs.Laws.{rows_in, chooser_in, listed, RowIn, RosterIn};
 
-use assignment::check_plan;
+use assignment::{Seats, check_plan};
 use input_data::{Day, FixedLimits};
 use refusal::Refusal;
 
@@ -37,29 +37,29 @@ impl Roster {
     }
 
     // How many may be listed.
-    fn rows(self, day: &Day) -> usize
-        ensures { result ≡ rows_of self day.now }
+    fn rows(self, seats: &Seats) -> usize
+        ensures { result ≡ rows_in self seats.now }
     {
         match self {
-            Roster::ChoosersOf(_) => day.choosers(),
-            Roster::ChoicesOf(_) => day.choices(),
+            Roster::ChoosersOf(_) => seats.choosers,
+            Roster::ChoicesOf(_) => seats.choices,
         }
     }
 
     // The row of the i-th that may be listed.
-    fn row(self, slots: usize, i: usize) -> Row
-        requires { (slots ≤ 8) × (chooser_of self < 64) × (i < 64) }
-        ensures { result ≡ row_of self slots i }
+    fn row(self, seats: &Seats, i: usize) -> Row
+        requires { (i < 64) × (chooser_in self i < seats.now.choosers) }
+        ensures { result ≡ row_of self seats.now.slots i }
     {
         let value = i as u8;
         match self {
             Roster::ChoosersOf(choice) => Row {
-                base: i * slots,
+                base: i * seats.slots,
                 choice,
                 value,
             },
             Roster::ChoicesOf(chooser) => Row {
-                base: chooser * slots,
+                base: chooser * seats.slots,
                 choice: i,
                 value,
             },
@@ -85,32 +85,28 @@ impl<'a> Filled<'a> {
     }
 }
 
-#[tactic(auto, using(crate::specs::Laws::seat_room, crate::specs::Laws::seat_more, crate::specs::Laws::seat_skip, counting::specs::WrittenLaws::put_all), unfolding(assignment::specs::Plan::row))]
-fn put_row(slots: usize, plan: &[u8], row: Row, filled: &mut Filled)
-    requires { RowIn slots plan.now row filled.old.used (length filled.old.roster.now) }
-    ensures { Lists filled.old (run_of slots plan.now row) filled.new }
+fn put_row(seats: &Seats, row: Row, filled: &mut Filled)
+    requires { RowIn seats.now row filled.old.used (length filled.old.roster.now) }
+    ensures { Lists filled.old (run_of seats.now.slots seats.now.plan.now row) filled.new }
 {
-    for s in 0..slots {
-        if plan[row.base + s] as usize == row.choice {
+    for seat in &seats.plan[row.base..row.base + seats.slots] {
+        if *seat as usize == row.choice {
             filled.push(row.value);
         }
     }
 }
 
-#[tactic(auto, using(crate::specs::Laws::row_in))]
-fn put_rows(day: &Day, plan: &[u8], of: Roster, roster: &mut [u8]) -> usize
-    requires { RosterIn of day.now plan.now (length roster.old) }
-    ensures { Put (one_buffer _) roster.old 0 (roster_of of day.now plan.now) roster.new result }
+fn put_rows(seats: &Seats, of: Roster, roster: &mut [u8]) -> usize
+    requires { RosterIn of seats.now (length roster.old) }
+    ensures { Put (one_buffer _) roster.old 0 (listed of seats.now) roster.new result }
 {
-    let slots = day.slots();
     let mut filled = Filled { roster, used: 0 };
-    for i in 0..of.rows(day) {
-        put_row(slots, plan, of.row(slots, i), &mut filled);
+    for i in 0..of.rows(seats) {
+        put_row(seats, of.row(seats, i), &mut filled);
     }
     filled.used
 }
 
-#[tactic(auto, using(crate::specs::Laws::roster_in))]
 pub fn roster_within(
     fixed: FixedLimits,
     day: &[u8],
@@ -122,6 +118,6 @@ pub fn roster_within(
 {
     let day = Day::read(day)?;
     let short = roster.len() < fixed.plan_length();
-    check_plan(fixed, &day, plan, short, of.is_outside(&day))?;
-    Ok(put_rows(&day, plan, of, roster))
+    let seats = check_plan(fixed, &day, plan, short, of.is_outside(&day))?;
+    Ok(put_rows(&seats, of, roster))
 }

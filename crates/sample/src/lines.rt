@@ -81,11 +81,17 @@ impl fmt::Display for Printed {
     }
 }
 
-pub(crate) fn name_of(o: Ordering) -> &'static str {
-    match o {
-        Ordering::Less => "less",
-        Ordering::Equal => "equal",
-        Ordering::Greater => "greater",
+// An order by its word.
+#[derive(Clone, Copy)]
+pub(crate) struct Named(pub(crate) Ordering);
+
+impl fmt::Display for Named {
+    fn fmt<W: fmt::Write>(&self, f: &mut fmt::Formatter<W>) -> fmt::Result {
+        match self.0 {
+            Ordering::Less => write!(f, "less"),
+            Ordering::Equal => write!(f, "equal"),
+            Ordering::Greater => write!(f, "greater"),
+        }
     }
 }
 

@@ -108,24 +108,34 @@ fn model(day: &[u8; 2044], b: &mut Buffers) -> Result<Counts, Refusal> {
     solve_with_limit::build_model(day, &state, &input(&lists), &mut lent!(b))
 }
 
-// Its supplies and edges.
-pub(crate) fn rows_of_model(rt: &HostRuntime, text: &str, day: &[u8; 2044]) -> io::Result<()> {
+// Whether it is accepted, and then the rows on it.
+fn rows_of_built<F: FnOnce(Counts, &Buffers) -> io::Result<()>>(
+    rt: &HostRuntime,
+    text: &str,
+    day: &[u8; 2044],
+    rows: F,
+) -> io::Result<()>
+    requires { F.IsAlwaysCallable rows }
+{
     let mut b = Buffers::new();
     let made = model(day, &mut b);
     println!(rt; "{text}: {}", Outcome(&made))?;
     let Ok(counts) = made else { return Ok(()) };
-    // A node for each chooser in each slot, each choice and each slot: 9.
-    println!(rt; "supplies{}", Listed(&b.supplies[..9]))?;
-    rows_of_edges(rt, counts.edges, &b)
+    rows(counts, &b)
+}
+
+// Its supplies and edges.
+pub(crate) fn rows_of_model(rt: &HostRuntime, text: &str, day: &[u8; 2044]) -> io::Result<()> {
+    rows_of_built(rt, text, day, |counts, b| {
+        // A node for each chooser in each slot, each choice and each slot: 9.
+        println!(rt; "supplies{}", Listed(&b.supplies[..9]))?;
+        rows_of_edges(rt, counts.edges, b)
+    })
 }
 
 // Its groups and blocked edges.
 pub(crate) fn rows_of_tied_model(rt: &HostRuntime, text: &str, day: &[u8; 2044]) -> io::Result<()> {
-    let mut b = Buffers::new();
-    let made = model(day, &mut b);
-    println!(rt; "{text}: {}", Outcome(&made))?;
-    let Ok(counts) = made else { return Ok(()) };
-    rows_of_groups(rt, counts, &b)
+    rows_of_built(rt, text, day, |counts, b| rows_of_groups(rt, counts, b))
 }
 
 // Whether these values are accepted at limit 1; then the plan that they decode to is put.

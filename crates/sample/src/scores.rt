@@ -1,5 +1,5 @@
 // The rows on scores and on negation.
-use crate::lines::{Parts, Printed, name_of};
+use crate::lines::{Named, Parts, Printed};
 use constraint::Constraint;
 use score::Score;
 use std::io;
@@ -35,7 +35,7 @@ pub(crate) fn row_of_zeros(rt: &HostRuntime) -> io::Result<()> {
         major: 1.0,
         minor: 0.0,
     };
-    let order = name_of(negative.cmp(positive));
+    let order = Named(negative.cmp(positive));
     println!(rt; "minor -0.0 before +0.0 with equal majors: {order}")
 }
 
@@ -44,7 +44,7 @@ fn row_of_two(rt: &HostRuntime, left: Score, right: Score) -> io::Result<()> {
         "{} < {}: {}",
         Printed(left),
         Printed(right),
-        name_of(left.cmp(right))
+        Named(left.cmp(right))
     )
 }
 

@@ -90,10 +90,8 @@ fn build_within(
 fn names_outside(day: &Day, entries: Option<&[u8; 32]>) -> bool
     ensures { MatchOption entries.entry (result ≡ false) (λ e. result ≡ bad_slots day.now.choices day.now.slots e.now) }
 {
-    match entries {
-        Some(entries) => bad_slots(day.choices(), day.slots(), entries),
-        None => false,
-    }
+    let (choices, slots) = (day.choices(), day.slots());
+    entries.is_some_and(|entries| bad_slots(choices, slots, entries))
 }
 
 // Checks 1 to 12 of an update. The sums of the state's schedule, and the entries of the next, where none applies.

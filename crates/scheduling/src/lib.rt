@@ -25,10 +25,7 @@ pub struct Scheduling {
 pub fn slot_in(entry: u8) -> Option<usize>
     ensures { result ≡ slot_in entry }
 {
-    if entry == 0 {
-        return None;
-    }
-    Some(entry as usize - 1)
+    entry.checked_sub(1).map(|s| s as usize)
 }
 
 // 11. A schedule names a slot that the day has not.

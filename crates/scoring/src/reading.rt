@@ -29,6 +29,7 @@ pub fn read_schedule(
 
 // The same beside a plan, where 13 does not apply either.
 #[tactic(auto, using(input_data::specs::ReadLaws::day_refused, input_data::specs::ReadLaws::day_passed, crate::specs::Laws::parts_accepted, crate::specs::Laws::parted))]
+#[inline]
 pub fn read_parts<'a>(
     fixed: FixedLimits,
     day: &'a Day<'a>,

@@ -1,8 +1,8 @@
 -- What the walks over a plan's seats ask, and their laws. Definitions and their laws.
 use Prim.Native.Nat.{ℕ, zero, suc, ◌+◌, ◌*◌, ◌<◌, ◌≤◌, max}
-use Rattle.std.specs.Prelude.{◌≡◌, refl, Bool, true, false, ◌&&◌, ◌||◌, ◌≢◌, List, [], eqb, pos, Float, length, get_or, set, replicate}
+use Rattle.std.specs.Prelude.{◌≡◌, refl, Bool, true, false, ◌&&◌, ◌||◌, ◌≢◌, List, eqb, pos, Float, length, get_or, set, take, replicate}
 use Rattle.std.proofs.Math.Path.{sym, ap}
-use Rattle.std.proofs.Common.{ap₂, ◌∙◌, suc-mul, mul-le-mul, mul-le-mul_right, le_refl, arith, get_or-set_same, get_or-set_other, eq-eqb, ne_eqb}
+use Rattle.std.proofs.Common.{ap₂, ◌∙◌, suc-mul, mul-le-mul, mul-le-mul_right, le_refl, arith, length-take-le, get_or-take, get_or-set_same, get_or-set_other, eq-eqb, ne_eqb}
 use Rattle.std.proofs.Math.Bool.{not, or-true, or-false}
 use Rattle.std.specs.Float.{nan, fin, binary32}
 use Rattle.std.specs.Float.Ieee.{add, mul, div, of_int}
@@ -100,6 +100,15 @@ parts_more {i = i} {plan = plan} {counts = a} p h = record {
   at = λ k l. one_more a (entry_at plan i) k (omega (arith, p.long)) ∙ rw (p.at k l, fold_more);
 }
 
+-- a walk over the first m seats, read as the front of the plan: seat i is a choice
+pub seat_front : {n m i : ℕ} {plan : List ℕ} → Choices n plan → m ≡ n → i < length (take m plan) → (i < n) × (entry_at plan i < 32) × (entry_at (take m plan) i ≡ entry_at plan i)
+seat_front {n = n} {m = m} {i = i} {plan = plan} c e h =
+    let l : i < n = omega (arith, length-take-le m plan (omega (arith, c.inside))) in
+    (l, c.choice i l, get_or-take m plan i 0 (omega arith))
+
+pub front_all : {n m i : ℕ} {plan : List ℕ} → Choices n plan → m ≡ n → length (take m plan) ≤ i → i ≤ length (take m plan) → i ≡ n
+front_all {m = m} {plan = plan} c e h g = omega (arith, length-take-le m plan (omega (arith, c.inside)))
+
 -- no choice has more seats than there are
 pub part_most : (n : ℕ) (plan : List ℕ) (k : ℕ) → part_count n plan k ≤ n
 unfolding part_count
@@ -186,8 +195,8 @@ all_not (suc n) f = rw (all_not n f) (neither (any_to n f) (f n))
     neither false b = refl
 
 module _ (slots : ℕ) (sch plan : List ℕ) (c : ℕ) where
-  pub marked_none : {marks : List Bool} → marks ≡ replicate 8 false → Marked slots sch plan c 0 marks
-  marked_none e = rw e (record { long = refl; at = λ t l. get_or-replicate 8 t false false l ∙ sym (fold_none ◌||◌ false (seat_in slots sch plan c t)) })
+  pub marked_none : Marked slots sch plan c 0 (replicate 8 false)
+  marked_none = record { long = refl; at = λ t l. get_or-replicate 8 t false false l ∙ sym (fold_none ◌||◌ false (seat_in slots sch plan c t)) }
 
   pub marked_more : (s t : ℕ) {marks : List Bool} → seat_entry slots sch plan c s ≡ suc t → t < 8 → Marked slots sch plan c s marks → Marked slots sch plan c (s + 1) (set marks t true)
   marked_more s t {marks = marks} e h p = record {
@@ -201,21 +210,6 @@ module _ (slots : ℕ) (sch plan : List ℕ) (c : ℕ) where
   pub marked_new : (s t : ℕ) {marks : List Bool} → seat_entry slots sch plan c s ≡ suc t → t < 8 → Marked slots sch plan c s marks → not (get_or marks t false) ≡ is_new slots sch plan c s
   unfolding is_new
   marked_new s t e h p = ap not (p.at t h) ∙ sym (all_not s (seat_in slots sch plan c t)) ∙ ap (λ (x : ℕ). all_to s (λ r. not (eqb (seat_entry slots sch plan c r) x))) (sym e)
-
--- the rows of the choosers from c on have no mark
-pub record Unmarked (c : ℕ) (marks : List (List Bool)) : Type 0 where
-  pub long : length marks ≡ 64
-  pub clear : (k : ℕ) → c ≤ k → k < 64 → get_or marks k [] ≡ replicate 8 false
-
-pub unmarked_all : Unmarked 0 (replicate 64 (replicate 8 false))
-unmarked_all = record { long = refl; clear = λ k h l. get_or-replicate 64 k (replicate 8 false) [] l }
-
--- the row of chooser c is marked
-pub unmarked_more : {c : ℕ} {marks : List (List Bool)} (row : List Bool) → Unmarked c marks → Unmarked (c + 1) (set marks c row)
-unmarked_more {c = c} {marks = marks} row p = record {
-  long = length-set marks c row ∙ p.long;
-  clear = λ k h l. get_or-set_other marks c k row [] (λ e. omega arith) ∙ p.clear k (omega arith) l;
-}
 
 pub row_seated : {choosers slots : ℕ} {sch plan : List ℕ} → Seated choosers slots sch plan → (c : ℕ) → c < choosers → RowSeated slots sch plan c
 row_seated {slots = slots} p c l = record {

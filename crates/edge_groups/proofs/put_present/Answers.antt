@@ -1,12 +1,12 @@
 use Rattle.std.proofs.Common.{arith}
-use Rattle.model_buffers.specs.StoredLaws.{fill_used, fill_long}
+use Rattle.model_buffers.specs.StoredLaws.{filled_long}
 use Rattle.edge_groups.specs.Together.{puts_none, puts_more}
 use Rattle.edge_groups.proofs.put_present.Goals as goal
 
 pub put_edge-requires : goal.put_edge-requires
 put_edge-requires g c =
     let v = c.loop-i.invariant in
-    (c.requires.1 _ c.loop-i-test.true _ c.edge.ensures, omega (arith, v.few, fill_used c.args.part _ _ v.stored, fill_long c.args.part _ _ v.stored))
+    (c.requires.1 _ c.loop-i-test.true _ c.edge.ensures, omega (arith, v.few, v.stored.used, filled_long v.stored))
 
 pub loop-i-init : goal.loop-i-init
 loop-i-init g c = puts_none

@@ -3,5 +3,5 @@ use Rattle.rosters.specs.Filled.{Lists}
 use Rattle.rosters.specs.Laws.{seat_of}
 use Rattle.rosters.proofs.roster.put_row.Given as goal
 
-abbrev pub invariant-loop-s : goal.invariant-loop-s
-invariant-loop-s l = Lists l.initial.filled (join_to l.s (seat_of l.plan l.row)) l.filled
+abbrev pub invariant-loop-seat : goal.invariant-loop-seat
+invariant-loop-seat l = Lists l.initial.filled (join_to l.seat-index (seat_of l.seats.plan.now l.row)) l.filled
