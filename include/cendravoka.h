@@ -193,12 +193,20 @@ typedef struct {
 } cendravoka_choice_answer;
 
 /* Where the search asks: for a plan with no preference above level, which is
- * the one at index (0 if greedy). Both are 0 where it does not ask. */
+ * the one at index (0 if greedy). Both are 0 where it does not ask.
+ * most_asks: a search that is begun, and told each time with the same day and
+ * levels as it was last handed back, never makes more asks than this. It is the
+ * number of binary digits of the count of levels from its start to the last,
+ * both included: 9 for 256 levels, 0 without levels; 1 where greedy. All answers
+ * of such a search have the same number, but for refused ones, which have 0. An
+ * answer from memory makes no ask, and has the number that its search would
+ * have otherwise. */
 typedef struct {
     uint32_t number;
     uint32_t level;
     uint32_t index;
     cendravoka_search search;
+    uint32_t most_asks;
 } cendravoka_search_answer;
 
 /* Whether a test holds: 0 or 1, and 0 where refused. */
@@ -306,11 +314,12 @@ CENDRAVOKA_AT(cendravoka_in_choice_answer, found, 4);
 CENDRAVOKA_SIZE(cendravoka_choice_answer, 8);
 CENDRAVOKA_AT(cendravoka_choice_answer, number, 0);
 CENDRAVOKA_AT(cendravoka_choice_answer, choice, 4);
-CENDRAVOKA_SIZE(cendravoka_search_answer, 1128);
+CENDRAVOKA_SIZE(cendravoka_search_answer, 1132);
 CENDRAVOKA_AT(cendravoka_search_answer, number, 0);
 CENDRAVOKA_AT(cendravoka_search_answer, level, 4);
 CENDRAVOKA_AT(cendravoka_search_answer, index, 8);
 CENDRAVOKA_AT(cendravoka_search_answer, search, 12);
+CENDRAVOKA_AT(cendravoka_search_answer, most_asks, 1128);
 CENDRAVOKA_SIZE(cendravoka_verdict_answer, 8);
 CENDRAVOKA_AT(cendravoka_verdict_answer, number, 0);
 CENDRAVOKA_AT(cendravoka_verdict_answer, holds, 4);

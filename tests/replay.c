@@ -313,6 +313,7 @@ static void check_search(cendravoka_search_answer answer)
     CHECK(search.cached.greedy, U8);
     CHECK(search.cached.schedule.entries, U8);
     CHECK(search.cached.plan, U8);
+    CHECK(most_asks, U32);
 }
 
 static void check_verdict(cendravoka_verdict_answer answer)

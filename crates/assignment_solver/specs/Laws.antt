@@ -1,6 +1,6 @@
 -- Answers of begin and tell as the code comes to them: by their numbers, and from the parts of a step. Assumes nothing.
 use Rattle.std.specs.Prelude.{refl, Result, Ok, Err, IsErrAnd, ℕ, ◌+◌, ◌<◌, ◌≡◌, Bool, false, ◌||◌, ◌&&◌, List}
-use Rattle.std.proofs.Common.{sym, ◌∙◌}
+use Rattle.std.proofs.Common.{sym, ap, ◌∙◌}
 use Rattle.refusal.specs.Number.{outcome}
 use Rattle.refusal.specs.declared.Refusal.{Refusal}
 use Rattle.input_data.specs.Read.{day_read}
@@ -15,7 +15,7 @@ use Rattle.input_data.specs.declared.Limits.{Limits}
 use Rattle.scheduling.specs.Handed.{schedule_of, not_schedule, kept_of}
 use Rattle.preference_search.specs.Search.{LimitSolveResult, Feasible, Infeasible, Incomplete, Told, told, is_feasible, middle}
 use Rattle.preference_search.specs.Bytes.{not_cached, not_search, cached_in, search_in}
-use Rattle.preference_search.specs.Steps.{search_refused, begun_answer, asked_again, told_range, told_answer}
+use Rattle.preference_search.specs.Steps.{search_refused, search_answer, begun_answer, asked_again, most_asks_of, told_range, told_step, told_answer}
 use Rattle.preference_search.specs.Laws.{is_infeasible, told_again}
 use Rattle.preference_search_checks.specs.Checks.{held_number, tell_number}
 use Rattle.preference_search_checks.specs.Read.{begin_read_number, tell_read_number}
@@ -52,14 +52,14 @@ module _ (l : Limits) (day s levels : List ℕ) (t : Told) where
 
 -- a plan beside an answer that is not feasible is not looked at
 pub tell_looked : (l : Limits) (day s levels : List ℕ) (r : LimitSolveResult) (plan : List ℕ) → tell_lent l day s levels (looked_at (told r plan)) ≡ tell_lent l day s levels (told r plan)
-unfolding tell_lent tell_number held_number told_answer
+unfolding tell_lent tell_number held_number told_answer told_step
 tell_looked l day s levels Feasible plan = refl
 tell_looked l day s levels Infeasible plan = refl
 tell_looked l day s levels Incomplete plan = refl
 
 -- ---- what is told, from its parts
 
-pub told_asks : (d : InputData) (s : Search) (levels : List ℕ) (t : Told) (a : SearchAnswer) {m : ℕ} {r : Range} {sch : List ℕ} {mark : Bool} → r ≡ range_by s → m ≡ middle r.low r.high → sch ≡ kept_of d s.schedule → mark ≡ (is_infeasible t.result && s.optimal) → is_feasible t.result ≡ false → m < r.high → a ≡ asked_again levels s (m + 1) s.high sch mark → a ≡ told_range d s levels t
+pub told_asks : (d : InputData) (s : Search) (levels : List ℕ) (t : Told) (a : SearchAnswer) {m : ℕ} {r : Range} {sch : List ℕ} {mark : Bool} → r ≡ range_by s → m ≡ middle r.low r.high → sch ≡ kept_of d s.schedule → mark ≡ (is_infeasible t.result && s.optimal) → is_feasible t.result ≡ false → m < r.high → a ≡ search_answer (most_asks_of levels s) (asked_again levels s (m + 1) s.high sch mark) → a ≡ search_answer (most_asks_of levels s) (told_range d s levels t)
 told_asks d s levels t a p₁ p₂ p₃ p₄ f h q =
     let h' : middle s.low s.high < s.high = rw (p₂, p₁) at h in
-    q ∙ rw (p₂, p₁, p₃, p₄) (told_again d s levels t.result t.plan f h')
+    q ∙ ap (search_answer (most_asks_of levels s)) (rw (p₂, p₁, p₃, p₄) (told_again d s levels t.result t.plan f h'))

@@ -7,20 +7,23 @@ ghost use Rattle.preference_search.specs.Steps.{begun_answer};
 ghost use Rattle.assignment_solver.specs.Calls.{begin_lent};
 
 use input_data::{Day, FixedLimits};
-use preference_search::{Ask, Asked, Known};
+use preference_search::{Ask, Asked, Known, most_asks, start_of};
 use preference_search_checks::{Opening, check_begin};
 use preference_search_steps::{Setting, Standing, begin_levels, recall};
 use refusal::Refusal;
 
 // The first ask of tested input, or the end without an ask.
-#[tactic(auto, unfolding(preference_search::specs::Steps::begun_answer))]
+#[tactic(auto, using(preference_search::specs::Laws::start_most), unfolding(preference_search::specs::Steps::begun_answer, preference_search::specs::Steps::begun_step))]
 fn begun(o: &Opening, bound: u32, greedy: bool) -> Asked
     ensures { asked_by result ≡ begun_answer o.now.day.now (schedule_of o.now.entries.now) o.now.levels.now bound greedy o.now.cached }
 {
     let choices = o.day.choices();
     let entries = scheduling::kept(choices, o.entries);
+    // A greedy search has no start.
+    let start = if greedy { 0 } else { start_of(o.levels, bound) };
+    let most_asks = most_asks(greedy, o.levels.len(), start);
     if o.cached.remembers(choices, &entries, greedy) {
-        return recall(o.day.seats(), greedy, entries, &o.cached);
+        return recall(o.day.seats(), greedy, most_asks, entries, &o.cached);
     }
     if greedy {
         let ask = Ask {
@@ -28,9 +31,10 @@ fn begun(o: &Opening, bound: u32, greedy: bool) -> Asked
             index: 0,
         };
         let known = Known::nothing(false);
-        return Standing::new(entries, known, o.cached.copied()).ask(Setting::Greedy, ask);
+        let standing = Standing::new(most_asks, entries, known, o.cached.copied());
+        return standing.ask(Setting::Greedy, ask);
     }
-    begin_levels(o.levels, bound, entries, &o.cached)
+    begin_levels(o.levels, start as u32, most_asks, entries, &o.cached)
 }
 
 #[tactic(auto, using(crate::specs::Laws::begin_unread, crate::specs::Laws::begin_refused, crate::specs::Laws::begin_done))]

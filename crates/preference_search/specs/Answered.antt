@@ -3,7 +3,7 @@ use Rattle.std.specs.Prelude.{ℕ, cond, [], Option, Some, None, Result, Ok, Err
 use Rattle.refusal.specs.Number.{number}
 use Rattle.refusal.specs.declared.Refusal.{Refusal}
 use Rattle.preference_search.specs.Search.{LimitSolveResult, Feasible, Infeasible, Incomplete, Told, told, is_feasible, low_after, high_after}
-use Rattle.preference_search.specs.Steps.{search_answer, search_refused}
+use Rattle.preference_search.specs.Steps.{step, search_answer, search_refused}
 use Rattle.preference_search.specs.declared.asked.Ask.{Ask}
 use Rattle.preference_search.specs.declared.asked.Asked.{Asked}
 use Rattle.preference_search.specs.declared.Range.{Range}
@@ -38,9 +38,9 @@ abbrev pub index_of : Option Ask → ℕ
 index_of (Some a) = a.index
 index_of None = 0
 
--- a search with its ask
+-- a search with its ask, and the most asks that it makes
 abbrev pub asked_by : Asked → SearchAnswer
-asked_by a = search_answer (level_of a.ask) (index_of a.ask) a.search
+asked_by a = search_answer a.most_asks (step (level_of a.ask) (index_of a.ask) a.search)
 
 abbrev pub search_answered : Result Asked Refusal → SearchAnswer
 search_answered (Ok a) = asked_by a

@@ -64,6 +64,12 @@ above_start start m Feasible h e f = let d : m ≢ start = eqb-false m start e i
 above_start start m Infeasible h e f = never (sym f)
 above_start start m Incomplete h e f = never (sym f)
 
+-- what any answer leaves is not below it
+pub low_above : (start low high : ℕ) (r : LimitSolveResult) → start ≤ low → start ≤ low_after low (middle low high) r
+low_above start low high Feasible h = h
+low_above start low high Infeasible h = omega (arith, h, middle_least low high)
+low_above start low high Incomplete h = omega (arith, h, middle_least low high)
+
 -- an answer that is not feasible: the best plan so far stays, and the range goes on above the middle
 pub record Stays (seats level : ℕ) (k : Known) (start low high m : ℕ) (r : LimitSolveResult) (plan : List ℕ) : Type 0 where
   pub known : learnt seats level k (told r plan) ≡ marked k (is_infeasible r && k.optimal)

@@ -1,5 +1,5 @@
--- The preference search, whole, as a function of the answers that it is given in order: SPEC 9.2 to 9.9, 9.11. Definitions only.
-use Rattle.std.specs.Prelude.{ℕ, ◌+◌, ◌-◌, ◌/◌, min, Bool, true, false, cond, List, [], ◌∷◌, eqb, ltb, leb, length, get_or, replicate}
+-- The preference search, whole, as a function of the answers that it is given in order, and the most asks that it makes: SPEC 9.2 to 9.9, 9.11, 9.20. Definitions only.
+use Rattle.std.specs.Prelude.{ℕ, ◌+◌, ◌-◌, ◌/◌, ◌^◌, min, Bool, true, false, cond, List, [], ◌∷◌, eqb, ltb, leb, length, get_or, replicate}
 use Rattle.assignment.specs.Plan.{kept_plan}
 use Rattle.counting.specs.Search.{first_to}
 use Rattle.preference_search.specs.declared.Known.{Known}
@@ -128,3 +128,13 @@ search_greedy most seats (t ∷ ts) = asked (ask_at 0 most) (ended (learnt_greed
 
 abbrev pub searched : Bool → List ℕ → ℕ → ℕ → ℕ → List Told → Outcome
 searched greedy levels bound most seats ts = cond greedy (search_greedy most seats ts) (search_levels levels bound seats ts)
+
+-- ---- the most asks that a search makes
+
+-- the number of binary digits: the least k with n below 2 ^ k
+unfoldable pub binary_digits : ℕ → ℕ
+binary_digits n = first_to (n + 1) (λ k. ltb n (2 ^ k))
+
+-- over levels, the binary digits of the count of levels from the start to the last, both included; `count` is of all levels
+abbrev pub most_asks : Bool → ℕ → ℕ → ℕ
+most_asks greedy count start = cond greedy 1 (binary_digits (count - start))

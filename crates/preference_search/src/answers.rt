@@ -45,6 +45,7 @@ impl From<Result<Asked, Refusal>> for SearchAnswer {
                     level: ask.level,
                     index: ask.index,
                     search: asked.search,
+                    most_asks: asked.most_asks,
                 }
             }
             Err(refusal) => SearchAnswer {
@@ -52,6 +53,7 @@ impl From<Result<Asked, Refusal>> for SearchAnswer {
                 level: 0,
                 index: 0,
                 search: no_search(),
+                most_asks: 0,
             },
         }
     }

@@ -11,10 +11,11 @@ pub struct Ask {
     pub index: u32,
 }
 
-// A search, and its ask where it waits for the answer to one.
+// A search, its ask where it waits for the answer to one, and the most asks that it makes, from its begin on.
 #[derive(Clone, Copy)]
 pub struct Asked {
     pub ask: Option<Ask>,
+    pub most_asks: u32,
     pub search: Search,
     ghost waits: { search.asking ≡ is_some ask },
 }

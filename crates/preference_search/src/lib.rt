@@ -4,11 +4,13 @@
 
 mod answers;
 mod asked;
+mod asks;
 mod lent;
 mod steps;
 mod telling;
 
 pub use asked::{Ask, Asked};
+pub use asks::most_asks;
 pub use lent::{LentCached, LentSearch};
 use scheduling::Scheduling;
 pub use steps::start_of;
@@ -70,6 +72,7 @@ pub struct Search {
 }
 
 // The same with the call's number, as C reads it: zeros stand for the level and the index where it does not ask.
+// A search that is begun, and told each time as it was last handed back, makes no more asks than `most_asks`.
 #[repr(C)]
 #[derive(Clone, Copy)]
 pub struct SearchAnswer {
@@ -77,4 +80,5 @@ pub struct SearchAnswer {
     pub level: u32,
     pub index: u32,
     pub search: Search,
+    pub most_asks: u32,
 }

@@ -114,11 +114,10 @@ fn first_level(levels: &[u32], bound: u32) -> Option<usize>
     levels.iter().position(|level| bound <= *level)
 }
 
-// That, else the last index.
+// That, else the last index; 0 without levels.
 #[tactic(auto, using(crate::specs::Laws::start_is))]
 pub fn start_of(levels: &[u32], bound: u32) -> usize
-    requires { (0 < length levels.now) × (length levels.now ≤ 256) }
     ensures { result ≡ start_of levels.now bound }
 {
-    first_level(levels, bound).unwrap_or(levels.len() - 1)
+    first_level(levels, bound).unwrap_or(levels.len().saturating_sub(1))
 }

@@ -1,4 +1,5 @@
 // What a search is told, once the day has passed and all has its length.
+ghost use Rattle.std.specs.Prelude.{◌≤◌, length};
 ghost use Rattle.preference_search.specs.Answered.{told_by};
 ghost use Rattle.preference_search.specs.Laws.{Holding};
 
@@ -13,4 +14,5 @@ pub struct Telling<'a> {
     pub levels: &'a [u32],
     pub told: &'a Told<'a>,
     ghost holding: { Holding day.now (told_by told.now) },
+    ghost few: { length levels.now ≤ 256 },
 }

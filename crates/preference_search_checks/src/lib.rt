@@ -135,7 +135,7 @@ fn wrong_length(fixed: FixedLimits, told: &Told) -> bool
 }
 
 // The search is handed on as it is read.
-#[tactic(auto, using(input_data::specs::ReadLaws::day_refused, input_data::specs::ReadLaws::day_passed, crate::specs::Numbers::tell_passed, crate::specs::Numbers::tell_search), unfolding(crate::specs::Read::tell_read_number))]
+#[tactic(auto, using(input_data::specs::ReadLaws::day_refused, input_data::specs::ReadLaws::day_passed, crate::specs::Numbers::tell_passed, crate::specs::Numbers::day_few, crate::specs::Numbers::tell_search), unfolding(crate::specs::Read::tell_read_number))]
 pub fn check_tell<'a>(
     fixed: FixedLimits,
     day: &'a Day<'a>,

@@ -17,7 +17,7 @@ use Rattle.scheduling.specs.declared.Scheduling.{Scheduling}
 use Rattle.assignment.specs.Calls.{seats}
 use Rattle.assignment.specs.Plan.{kept_plan}
 use Rattle.preference_search.specs.Search.{Told, Outcome, searched}
-use Rattle.preference_search.specs.Steps.{cached, same_setting, differs_in, is_equal, remembers, remembered, begun_answer}
+use Rattle.preference_search.specs.Steps.{cached, same_setting, differs_in, is_equal, remembers, remembered, begun_step, begun_answer}
 use Rattle.preference_search_checks.specs.Checks.{beside_levels, outside_cached, bad_cached, begin_number}
 use Rattle.assignment_solver.specs.Calls.{begin_answer}
 use Rattle.preference_search.specs.declared.CachedAssignment.{CachedAssignment}
@@ -137,7 +137,7 @@ module _ (l : Limits) (d : InputData) (sch : Scheduling) (levels : List ℕ) (bo
 
   -- the answer to a later search of a schedule that is remembered
   recalls : (sch' : Scheduling) (levels' : List ℕ) (bound' : ℕ) → OfDay d sch' levels' → remembers d.choices (kept_of d sch') greedy left.cached ≡ true → Recalled (kept_plan (seats d) left.cached.plan) (begin_answer l d sch' levels' bound' greedy left.cached)
-  unfolding begun_answer
+  unfolding begun_answer begun_step
   recalls sch' levels' bound' o h = rw (begin_is l d sch' levels' bound' greedy left.cached w (accepts st memory_fits sch' levels' o)) (rw h (record { done = refl; ended = refl; asks = refl; level = refl; found = refl; optimal = refl; plan_is = refl }))
 
   pub run_serves : RunServes l d sch levels bound greedy c ts

@@ -23,11 +23,11 @@ use Rattle.scheduling.specs.declared.Scheduling.{Scheduling}
 use Rattle.scheduling.specs.Handed.{outside, kept_of}
 use Rattle.assignment.specs.Calls.{seats}
 use Rattle.assignment.specs.Plan.{kept_plan, kept_seat, bad_plan_for, unseated}
-use Rattle.preference_search.specs.Search.{LimitSolveResult, Feasible, Infeasible, Incomplete, Told, told, Ask, Outcome, nothing, marked, is_feasible, found_at, learnt, learnt_greedy, ask_at, ended, waiting, asked, level_at, start_of, middle, ends_at, low_after, high_after, search_from, search_levels, search_greedy, searched}
-use Rattle.preference_search.specs.Steps.{search_with, search_answer, search_refused, remembers, recalled, remembered, over, next, begun_levels, begun_answer, known_by, told_answer}
+use Rattle.preference_search.specs.Search.{LimitSolveResult, Feasible, Infeasible, Incomplete, Told, told, Ask, Outcome, nothing, marked, is_feasible, found_at, learnt, learnt_greedy, ask_at, ended, waiting, asked, level_at, start_of, middle, ends_at, low_after, high_after, search_from, search_levels, search_greedy, searched, most_asks}
+use Rattle.preference_search.specs.Steps.{Step, step, search_with, search_answer, search_refused, remembers, recalled, remembered, over, next, begun_levels, begun_step, begun_answer, known_by, told_step, told_answer}
 use Rattle.preference_search_checks.specs.Checks.{beside_levels, wrong_length, bad_if, outside_cached, bad_cached, begin_number, spent_at, spent, bad_told, held_number, tell_number}
 use Rattle.assignment_solver.specs.Calls.{begin_answer, tell_answer}
-use Rattle.preference_search.specs.Laws.{middle_least, middle_most, above_start}
+use Rattle.preference_search.specs.Laws.{middle_least, middle_most, above_start, low_above}
 use Rattle.preference_search_checks.specs.Numbers.{day_small, day_few}
 use Rattle.assignment.specs.Laws.{Small, seats_most}
 use Rattle.preference_search_runs.specs.Run.{after, run, ask_of, asked_after, asks_of, counts, counted, outcome, memory, RunIsSearch}
@@ -65,14 +65,12 @@ module _ (l : Limits) (d : InputData) (levels : List ℕ) where
   tell_done s t e = rw e
 
   told_number : (s : Search) (t : Told) → (told_answer d s levels t).number ≡ 0
-  unfolding told_answer next
-  told_number s t = bool_cases s.greedy (λ g. rw g) (λ g. rw g (bool_cases (ends_at s.start (middle s.low s.high) t.result)
-      (λ e. rw e)
-      (λ e. rw e (bool_cases (ltb (high_after s.high (middle s.low s.high) t.result) (low_after s.low (middle s.low s.high) t.result)) (λ h. rw h) (λ h. rw h)))))
+  unfolding told_answer
+  told_number s t = refl
 
   module _ (a : SearchAnswer) (t : Told) where
     module _ (n : tell_number l d a.search levels t ≢ 0) where
-      after_refused : after l d levels a t ≡ a
+      pub after_refused : after l d levels a t ≡ a
       unfolding after
       after_refused = rw (tell_refused a.search t n, ne_eqb (tell_number l d a.search levels t) 0 n)
 
@@ -85,7 +83,7 @@ module _ (l : Limits) (d : InputData) (levels : List ℕ) where
       asked_refused ts = rw (after_refused, tell_refused a.search t n, ne_eqb (tell_number l d a.search levels t) 0 n)
 
     module _ (e : tell_number l d a.search levels t ≡ 0) where
-      after_done : after l d levels a t ≡ told_answer d a.search levels t
+      pub after_done : after l d levels a t ≡ told_answer d a.search levels t
       unfolding after
       after_done = rw (tell_done a.search t e, told_number a.search t)
 
@@ -98,7 +96,7 @@ module _ (l : Limits) (d : InputData) (levels : List ℕ) where
       asked_done ts = rw (after_done, tell_done a.search t e, told_number a.search t)
 
   -- a search that has ended takes no answer
-  ended_refuses : (s : Search) (t : Told) → s.asking ≡ false → tell_number l d s levels t ≢ 0
+  pub ended_refuses : (s : Search) (t : Told) → s.asking ≡ false → tell_number l d s levels t ≢ 0
   unfolding tell_number held_number spent_at
   ended_refuses s t e z =
       let p = (past l d (beside_levels d levels (wrong_length l t)) (held_number d s (length levels) t) z).none in
@@ -162,17 +160,17 @@ module _ (l : Limits) (d : InputData) (levels : List ℕ) {n : ℕ} {o : Outcome
 -- ---- the search over levels
 
 module _ (levels : List ℕ) (n start low high : ℕ) (k : Known) where
-  search_over : high < low → (ts : List Told) → search_from levels n start low high k ts ≡ ended k
+  pub search_over : high < low → (ts : List Told) → search_from levels n start low high k ts ≡ ended k
   unfolding search_from
   search_over h [] = rw (lt-ltb high low h)
   search_over h (t ∷ ts) = rw (lt-ltb high low h)
 
   module _ (h : low ≤ high) where
-    search_none : search_from levels n start low high k [] ≡ waiting (ask_at (middle low high) (level_at levels (middle low high))) k
+    pub search_none : search_from levels n start low high k [] ≡ waiting (ask_at (middle low high) (level_at levels (middle low high))) k
     unfolding search_from
     search_none = rw (le-ltb high low h)
 
-    search_some : (t : Told) (ts : List Told) → search_from levels n start low high k (t ∷ ts) ≡ asked (ask_at (middle low high) (level_at levels (middle low high)))
+    pub search_some : (t : Told) (ts : List Told) → search_from levels n start low high k (t ∷ ts) ≡ asked (ask_at (middle low high) (level_at levels (middle low high)))
         (cond (ends_at start (middle low high) t.result)
         (ended (learnt n (level_at levels (middle low high)) k t))
         (search_from levels n start (low_after low (middle low high) t.result) (high_after high (middle low high) t.result) (learnt n (level_at levels (middle low high)) k t) ts))
@@ -184,7 +182,7 @@ module _ (levels : List ℕ) (n start low high : ℕ) (k : Known) where
     unfolding next
     next_over h = rw (lt-ltb high low h)
 
-    next_asks : low ≤ high → next levels asks start low high sch k c ≡ search_answer (level_at levels (middle low high)) (middle low high) (search_with true false (asks + 1) start low high sch k c)
+    next_asks : low ≤ high → next levels asks start low high sch k c ≡ step (level_at levels (middle low high)) (middle low high) (search_with true false (asks + 1) start low high sch k c)
     unfolding next
     next_asks h = rw (le-ltb high low h)
 
@@ -255,11 +253,15 @@ module _ {l : Limits} {d : InputData} {levels sch : List ℕ} {c : CachedAssignm
 
   -- ---- a range
 
-  range_told : (n start low high : ℕ) (k : Known) (t : Told) → told_answer d (search_with true false n start low high sch k c) levels t ≡
-      cond (ends_at start (middle low high) t.result)
+  -- the answer that a step of a search over levels makes
+  abbrev answered : ℕ → Step → SearchAnswer
+  answered start s = search_answer (most_asks false (length levels) start) s
+
+  range_told : (n start low high : ℕ) (k : Known) (t : Told) → told_answer d (search_with true false n start low high sch k c) levels t ≡ answered start
+      (cond (ends_at start (middle low high) t.result)
       (over false n start low high sch (learnt (seats d) (level_at levels (middle low high)) k t) c)
-      (next levels n start (low_after low (middle low high) t.result) (high_after high (middle low high) t.result) sch (learnt (seats d) (level_at levels (middle low high)) k t) c)
-  unfolding told_answer
+      (next levels n start (low_after low (middle low high) t.result) (high_after high (middle low high) t.result) sch (learnt (seats d) (level_at levels (middle low high)) k t) c))
+  unfolding told_answer told_step
   range_told n start low high k t = rw st.same
 
   -- n asks were counted before, and each level that is left may be asked for
@@ -280,20 +282,20 @@ module _ {l : Limits} {d : InputData} {levels sch : List ℕ} {c : CachedAssignm
       let m = middle_most low high h in
       let q = middle_least low high in
       let p = above_start start (middle low high) Feasible (omega (arith, q, i.from)) e refl in
-      record { from = i.from; to = omega (arith, m, i.to); asks = omega (arith, m, q, p, i.asks) }
-  narrower n start low high Infeasible i h e = let q = middle_least low high in let m = middle_most low high h in record { from = omega (arith, q, i.from); to = i.to; asks = omega (arith, q, m, i.asks) }
-  narrower n start low high Incomplete i h e = let q = middle_least low high in let m = middle_most low high h in record { from = omega (arith, q, i.from); to = i.to; asks = omega (arith, q, m, i.asks) }
+      record { from = low_above start low high Feasible i.from; to = omega (arith, m, i.to); asks = omega (arith, m, q, p, i.asks) }
+  narrower n start low high Infeasible i h e = let q = middle_least low high in let m = middle_most low high h in record { from = low_above start low high Infeasible i.from; to = i.to; asks = omega (arith, q, m, i.asks) }
+  narrower n start low high Incomplete i h e = let q = middle_least low high in let m = middle_most low high h in record { from = low_above start low high Incomplete i.from; to = i.to; asks = omega (arith, q, m, i.asks) }
 
-  over_makes : (g : Bool) (n start low high : ℕ) (k : Known) → Makes n (ended k) (remembered g sch k c) [] (over g n start low high sch k c)
-  over_makes g n start low high k = record { asks_are = refl; count_is = sym (add-zero n); knows_it = refl; waits = refl; remembers_it = refl }
+  over_makes : (most : ℕ) (g : Bool) (n start low high : ℕ) (k : Known) → Makes n (ended k) (remembered g sch k c) [] (search_answer most (over g n start low high sch k c))
+  over_makes most g n start low high k = record { asks_are = refl; count_is = sym (add-zero n); knows_it = refl; waits = refl; remembers_it = refl }
 
-  abbrev RangeMakes : ℕ → ℕ → ℕ → ℕ → Known → SearchAnswer → List Told → Type 0
+  abbrev RangeMakes : ℕ → ℕ → ℕ → ℕ → Known → Step → List Told → Type 0
   RangeMakes n start low high k a ts =
-      Makes n (search_from levels (seats d) start low high k (counted l d sch ts)) (memory false sch false (search_from levels (seats d) start low high k (counted l d sch ts)) c) (asks_of l d levels a ts) (run l d levels a ts)
+      Makes n (search_from levels (seats d) start low high k (counted l d sch ts)) (memory false sch false (search_from levels (seats d) start low high k (counted l d sch ts)) c) (asks_of l d levels (answered start a) ts) (run l d levels (answered start a) ts)
 
   range_over : (ts : List Told) (n start low high : ℕ) (k : Known) → high < low → RangeMakes n start low high k (next levels n start low high sch k c) ts
   range_over ts n start low high k h = rw (search_over levels (seats d) start low high k h (counted l d sch ts), next_over levels (seats d) start low high k n sch c h)
-      (makes_ended l d levels (over false n start low high sch k c) ts refl (over_makes false n start low high k))
+      (makes_ended l d levels (answered start (over false n start low high sch k c)) ts refl (over_makes (most_asks false (length levels) start) false n start low high k))
 
   range_makes : (ts : List Told) (n start low high : ℕ) (k : Known) → InRange n start low high → Sound d sch k → RangeMakes n start low high k (next levels n start low high sch k c) ts
   unfolding run asked_after counted
@@ -303,13 +305,13 @@ module _ {l : Limits} {d : InputData} {levels sch : List ℕ} {c : CachedAssignm
   range_makes (t ∷ ts) n start low high k i w = lt_cases high low
       (λ h e. range_over (t ∷ ts) n start low high k h)
       (λ h e.
-      let a : SearchAnswer = search_answer (level_at levels (middle low high)) (middle low high) (search_with true false (n + 1) start low high sch k c) in
+      let a : SearchAnswer = answered start (step (level_at levels (middle low high)) (middle low high) (search_with true false (n + 1) start low high sch k c)) in
       let k' : Known = learnt (seats d) (level_at levels (middle low high)) k t in
       rw (next_asks levels (seats d) start low high k n sch c h) (bool_cases (counts l d sch t)
       (λ q. rw (counted_yes l d sch t ts q, search_some levels (seats d) start low high k h t (counted l d sch ts))
       (makes_done l d levels a t ts (taken false (n + 1) start low high k t w (range_unspent n start low high k i h) q) refl
       (rw (range_told (n + 1) start low high k t) (bool_cases (ends_at start (middle low high) t.result)
-      (λ x. rw x (makes_ended l d levels (over false (n + 1) start low high sch k' c) ts refl (over_makes false (n + 1) start low high k')))
+      (λ x. rw x (makes_ended l d levels (answered start (over false (n + 1) start low high sch k' c)) ts refl (over_makes (most_asks false (length levels) start) false (n + 1) start low high k')))
       (λ x. rw x (range_makes ts (n + 1) start (low_after low (middle low high) t.result) (high_after high (middle low high) t.result) k' (narrower n start low high t.result i h x) (learn_sound (level_at levels (middle low high)) k t.result t.plan w q)))))))
       (λ q. rw (counted_no l d sch t ts q) (makes_refused l d levels a t ts (not_taken false (n + 1) start low high k t q) (rw (next_asks levels (seats d) start low high k n sch c h) at (range_makes ts n start low high k i w))))))
 
@@ -320,8 +322,8 @@ module _ {l : Limits} {d : InputData} {levels sch : List ℕ} {c : CachedAssignm
 
   -- ---- a greedy search
 
-  greedy_told : (t : Told) → told_answer d (search_with true true 1 0 0 0 sch (marked nothing false) c) levels t ≡ over true 1 0 0 0 sch (learnt_greedy (seats d) d.max_preference t) c
-  unfolding told_answer
+  greedy_told : (t : Told) → told_answer d (search_with true true 1 0 0 0 sch (marked nothing false) c) levels t ≡ search_answer 1 (over true 1 0 0 0 sch (learnt_greedy (seats d) d.max_preference t) c)
+  unfolding told_answer told_step
   greedy_told t = rw st.same
 
   greedy_unspent : spent (search_with true true 1 0 0 0 sch (marked nothing false) c) (length levels) ≡ false
@@ -329,22 +331,22 @@ module _ {l : Limits} {d : InputData} {levels sch : List ℕ} {c : CachedAssignm
   greedy_unspent = refl
 
   abbrev greedy_ask : SearchAnswer
-  greedy_ask = search_answer d.max_preference 0 (search_with true true 1 0 0 0 sch (marked nothing false) c)
+  greedy_ask = search_answer 1 (step d.max_preference 0 (search_with true true 1 0 0 0 sch (marked nothing false) c))
 
   greedy_makes : (ts : List Told) → Makes 0 (search_greedy d.max_preference (seats d) (counted l d sch ts)) (memory false sch true (search_greedy d.max_preference (seats d) (counted l d sch ts)) c) (asks_of l d levels greedy_ask ts) (run l d levels greedy_ask ts)
   unfolding run asked_after counted search_greedy
   greedy_makes [] = record { asks_are = refl; count_is = refl; knows_it = refl; waits = refl; remembers_it = refl }
   greedy_makes (t ∷ ts) = bool_cases (counts l d sch t)
       (λ q. rw (counted_yes l d sch t ts q) (makes_done l d levels greedy_ask t ts (taken true 1 0 0 0 (marked nothing false) t (nothing_sound false) greedy_unspent q) refl
-      (rw (greedy_told t) (makes_ended l d levels (over true 1 0 0 0 sch (learnt_greedy (seats d) d.max_preference t) c) ts refl (over_makes true 1 0 0 0 (learnt_greedy (seats d) d.max_preference t))))))
+      (rw (greedy_told t) (makes_ended l d levels (search_answer 1 (over true 1 0 0 0 sch (learnt_greedy (seats d) d.max_preference t) c)) ts refl (over_makes 1 true 1 0 0 0 (learnt_greedy (seats d) d.max_preference t))))))
       (λ q. rw (counted_no l d sch t ts q) (makes_refused l d levels greedy_ask t ts (not_taken true 1 0 0 0 (marked nothing false) t q) (greedy_makes ts)))
 
   -- ---- the search over levels
 
-  levels_makes : (bound : ℕ) (ts : List Told) → Makes 0 (search_levels levels bound (seats d) (counted l d sch ts)) (memory false sch false (search_levels levels bound (seats d) (counted l d sch ts)) c) (asks_of l d levels (begun_levels levels bound sch c) ts) (run l d levels (begun_levels levels bound sch c) ts)
+  levels_makes : (bound : ℕ) (ts : List Told) → Makes 0 (search_levels levels bound (seats d) (counted l d sch ts)) (memory false sch false (search_levels levels bound (seats d) (counted l d sch ts)) c) (asks_of l d levels (answered (start_of levels bound) (begun_levels levels (start_of levels bound) sch c)) ts) (run l d levels (answered (start_of levels bound) (begun_levels levels (start_of levels bound) sch c)) ts)
   unfolding search_levels begun_levels
   levels_makes bound ts = eq_cases (length levels) 0
-      (λ z e. rw e (makes_ended l d levels (search_answer 0 0 (search_with false false 0 0 0 0 sch nothing c)) ts refl (record { asks_are = refl; count_is = refl; knows_it = refl; waits = refl; remembers_it = refl })))
+      (λ z e. rw e (makes_ended l d levels (answered (start_of levels bound) (step 0 0 (search_with false false 0 0 0 0 sch nothing c))) ts refl (record { asks_are = refl; count_is = refl; knows_it = refl; waits = refl; remembers_it = refl })))
       (λ z e. rw e (range_makes ts 0 (start_of levels bound) (start_of levels bound) (length levels - 1) nothing (record { from = le_refl (start_of levels bound); to = omega arith; asks = omega arith }) (nothing_sound true)))
 
   -- ---- what a search knows is sound
@@ -411,9 +413,9 @@ module _ (l : Limits) (d : InputData) (sch : Scheduling) (levels : List ℕ) (bo
   begun_makes : (ts : List Told) → Makes 0 (outcome d sch levels bound greedy c (counted l d (kept_of d sch) ts))
       (memory (remembers d.choices (kept_of d sch) greedy c) (kept_of d sch) greedy (outcome d sch levels bound greedy c (counted l d (kept_of d sch) ts)) c)
       (asks_of l d levels (begun_answer d sch levels bound greedy c) ts) (run l d levels (begun_answer d sch levels bound greedy c) ts)
-  unfolding begun_answer
+  unfolding begun_answer begun_step
   begun_makes ts = bool_cases (remembers d.choices (kept_of d sch) greedy c)
-      (λ h. rw h (makes_ended l d levels (search_answer 0 0 (search_with false greedy 0 0 0 0 (kept_of d sch) (recalled d c) c)) ts refl (record { asks_are = refl; count_is = refl; knows_it = refl; waits = refl; remembers_it = refl })))
+      (λ h. rw h (makes_ended l d levels (search_answer (most_asks greedy (length levels) (start_of levels bound)) (step 0 0 (search_with false greedy 0 0 0 0 (kept_of d sch) (recalled d c) c))) ts refl (record { asks_are = refl; count_is = refl; knows_it = refl; waits = refl; remembers_it = refl })))
       (λ h. rw h (bool_cases greedy (λ g. rw g (greedy_makes standing ts)) (λ g. rw g (levels_makes standing bound ts))))
 
   -- the answer that begin gives

@@ -3,23 +3,24 @@
 
 mod setting;
 
-ghost use Rattle.std.specs.Prelude.{true, false, ◌+◌, ◌≡◌, ◌<◌, ◌≤◌, length};
+ghost use Rattle.std.specs.Prelude.{true, false, ◌+◌, ◌-◌, ◌≡◌, ◌<◌, ◌≤◌, length};
 ghost use Rattle.preference_search.specs.Answered.{asked_by};
 ghost use Rattle.preference_search.specs.Laws.{Ranged};
 ghost use Rattle.preference_search.specs.Search.{found_at};
-ghost use Rattle.preference_search.specs.Steps.{search_answer, asked_again, begun_levels, next, remembered, search_with};
+ghost use Rattle.preference_search.specs.Steps.{step, search_answer, asked_again, begun_levels, most_asks_of, next, remembered, search_with};
 ghost use Rattle.preference_search_steps.specs.Standing.{over_at, search_at};
 
 use preference_search::{
-    Ask, Asked, CachedAssignment, Known, LentCached, LentSearch, Range, Search, start_of,
+    Ask, Asked, CachedAssignment, Known, LentCached, LentSearch, Range, Search, most_asks,
 };
 use scheduling::Scheduling;
 pub use setting::Setting;
 
-// Where a search stands: how many asks it has made, its schedule, what it knows and what it remembers.
+// Where a search stands: how many asks it has made and makes at most, its schedule, what it knows and what it remembers.
 #[derive(Clone, Copy)]
 pub struct Standing {
     pub asks: u32,
+    pub most_asks: u32,
     pub entries: [u8; 32],
     pub known: Known,
     pub cached: CachedAssignment,
@@ -27,23 +28,33 @@ pub struct Standing {
 
 impl Standing {
     // Before the first ask.
-    pub fn new(entries: [u8; 32], known: Known, cached: CachedAssignment) -> Standing
-        ensures { (result.asks ≡ 0) × (result.entries ≡ entries) × (result.known ≡ known) × (result.cached ≡ cached) }
+    pub fn new(
+        most_asks: u32,
+        entries: [u8; 32],
+        known: Known,
+        cached: CachedAssignment,
+    ) -> Standing
+        ensures { (result.asks ≡ 0) × (result.most_asks ≡ most_asks)
+            × (result.entries ≡ entries) × (result.known ≡ known) × (result.cached ≡ cached) }
     {
         Standing {
             asks: 0,
+            most_asks,
             entries,
             known,
             cached,
         }
     }
 
-    // Of a lent search, with what it knows now.
-    pub fn of(search: &LentSearch, entries: [u8; 32], known: Known) -> Standing
-        ensures { (result.asks ≡ search.now.asks) × (result.entries ≡ entries) × (result.known ≡ known) × (result.cached ≡ search.now.cached) }
+    // Of a lent search over these levels, with what it knows now.
+    pub fn of(search: &LentSearch, levels: &[u32], entries: [u8; 32], known: Known) -> Standing
+        requires { length levels.now ≤ 256 }
+        ensures { (result.asks ≡ search.now.asks) × (result.most_asks ≡ most_asks_of levels.now search.now)
+            × (result.entries ≡ entries) × (result.known ≡ known) × (result.cached ≡ search.now.cached) }
     {
         Standing {
             asks: search.asks(),
+            most_asks: most_asks(search.greedy(), levels.len(), search.range().start as usize),
             entries,
             known,
             cached: search.cached().copied(),
@@ -72,6 +83,7 @@ impl Standing {
     {
         let Standing {
             asks,
+            most_asks: _,
             entries,
             known,
             cached,
@@ -102,7 +114,8 @@ impl Standing {
     // An ask. It is counted.
     pub fn ask(self, setting: Setting, ask: Ask) -> Asked
         requires { self.asks < u32.MAX }
-        ensures { asked_by result ≡ search_answer ask.level ask.index (search_at true setting (self.asks + 1) self.entries self.known self.cached) }
+        ensures { asked_by result ≡ search_answer self.most_asks
+            (step ask.level ask.index (search_at true setting (self.asks + 1) self.entries self.known self.cached)) }
     {
         let counted = Standing {
             asks: self.asks + 1,
@@ -110,23 +123,26 @@ impl Standing {
         };
         Asked {
             ask: Some(ask),
+            most_asks: self.most_asks,
             search: counted.search(true, setting),
         }
     }
 
     // An end at which nothing is put in place of what is remembered.
     pub fn rest(self, setting: Setting) -> Asked
-        ensures { asked_by result ≡ search_answer 0 0 (search_at false setting self.asks self.entries self.known self.cached) }
+        ensures { asked_by result ≡ search_answer self.most_asks
+            (step 0 0 (search_at false setting self.asks self.entries self.known self.cached)) }
     {
         Asked {
             ask: None,
+            most_asks: self.most_asks,
             search: self.search(false, setting),
         }
     }
 
     // The end of a search.
     pub fn end(self, setting: Setting) -> Asked
-        ensures { asked_by result ≡ over_at setting self.asks self.entries self.known self.cached }
+        ensures { asked_by result ≡ search_answer self.most_asks (over_at setting self.asks self.entries self.known self.cached) }
     {
         let ended = Standing {
             cached: self.remember(setting.is_greedy()),
@@ -139,7 +155,8 @@ impl Standing {
     #[tactic(auto, using(preference_search::specs::Laws::middle_most), unfolding(preference_search::specs::Steps::next))]
     pub fn go_on(self, levels: &[u32], range: Range) -> Asked
         requires { (range.high < length levels.now) × (length levels.now ≤ 256) × (self.asks ≤ 256) }
-        ensures { asked_by result ≡ next levels.now self.asks range.start range.low range.high self.entries self.known self.cached }
+        ensures { asked_by result ≡ search_answer self.most_asks
+            (next levels.now self.asks range.start range.low range.high self.entries self.known self.cached) }
     {
         let setting = Setting::Levels(Some(range));
         if range.high < range.low {
@@ -165,7 +182,8 @@ pub fn ask_again(
     mark: bool,
 ) -> Asked
     requires { Ranged search.now levels.now × (low ≤ search.now.high) }
-    ensures { asked_by result ≡ asked_again levels.now search.now low search.now.high entries mark }
+    ensures { asked_by result ≡ search_answer (most_asks_of levels.now search.now)
+        (asked_again levels.now search.now low search.now.high entries mark) }
 {
     let range = Range {
         low,
@@ -176,31 +194,43 @@ pub fn ask_again(
         level: levels[m as usize],
         index: m,
     };
-    let standing = Standing::of(search, entries, search.known(mark));
+    let standing = Standing::of(search, levels, entries, search.known(mark));
     standing.ask(Setting::Levels(Some(range)), ask)
 }
 
 // What is remembered: optimal, without an ask and without a level.
-pub fn recall(seats: usize, greedy: bool, entries: [u8; 32], cached: &LentCached) -> Asked
+pub fn recall(
+    seats: usize,
+    greedy: bool,
+    most_asks: u32,
+    entries: [u8; 32],
+    cached: &LentCached,
+) -> Asked
     requires { seats ≤ 512 }
-    ensures { asked_by result ≡ search_answer 0 0 (search_with false greedy 0 0 0 0 entries
-        (found_at seats 0 cached.now.plan true) cached.now) }
+    ensures { asked_by result ≡ search_answer most_asks (step 0 0 (search_with false greedy 0 0 0 0 entries
+        (found_at seats 0 cached.now.plan true) cached.now)) }
 {
     let known = Known::found_at(seats, 0, cached.plan(), true);
-    Standing::new(entries, known, cached.copied()).rest(Setting::without_range(greedy))
+    let standing = Standing::new(most_asks, entries, known, cached.copied());
+    standing.rest(Setting::without_range(greedy))
 }
 
-// The search over levels; without levels it ends at once.
-#[tactic(auto, using(preference_search::specs::Laws::start_most), unfolding(preference_search::specs::Steps::begun_levels))]
-pub fn begin_levels(levels: &[u32], bound: u32, entries: [u8; 32], cached: &LentCached) -> Asked
-    requires { length levels.now ≤ 256 }
-    ensures { asked_by result ≡ begun_levels levels.now bound entries cached.now }
+// The search over levels from this index on; without levels it ends at once.
+#[tactic(auto, unfolding(preference_search::specs::Steps::begun_levels))]
+pub fn begin_levels(
+    levels: &[u32],
+    start: u32,
+    most_asks: u32,
+    entries: [u8; 32],
+    cached: &LentCached,
+) -> Asked
+    requires { (length levels.now ≤ 256) × (start ≤ length levels.now - 1) }
+    ensures { asked_by result ≡ search_answer most_asks (begun_levels levels.now start entries cached.now) }
 {
-    let standing = Standing::new(entries, Known::nothing(true), cached.copied());
+    let standing = Standing::new(most_asks, entries, Known::nothing(true), cached.copied());
     if levels.is_empty() {
         return standing.rest(Setting::Levels(None));
     }
-    let start = start_of(levels, bound) as u32;
     let range = Range {
         start,
         low: start,

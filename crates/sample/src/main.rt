@@ -38,8 +38,7 @@ fn main(rt: HostRuntime) -> io::Result<()> {
     let day = day_of(2, 2, 0);
     rows_of_day(&rt, &day)?;
     rows_of_change(&rt, &day)?;
-    searches::row_of_search(&rt, 0)?;
-    searches::row_of_search(&rt, 5)?;
+    searches::rows_of_searches(&rt)?;
     scores::row_of_zeros(&rt)?;
     scores::rows_of_order(&rt)?;
     scores::row_of_best(&rt)?;

@@ -1,16 +1,17 @@
 -- The rows of the sample day that SPEC 13 marks P, as one list over what the calls give and leave, acceptance included. Definitions only.
-use Rattle.std.specs.Prelude.{ℕ, ◌≡◌, true, false, List, [], ◌∷◌, pos, negsuc, take}
+use Rattle.std.specs.Prelude.{ℕ, ◌≤◌, ◌≡◌, true, false, List, [], ◌∷◌, pos, negsuc, length, take}
 use Rattle.std.specs.Float.{fin, binary32}
 use Rattle.std.specs.Float.Ieee.{to_bits}
 use Rattle.preference_search.specs.Search.{Ask, Told, ask_at}
 use Rattle.input_data.specs.Lengths.{full_day}
 use Rattle.input_data.specs.declared.InputData.{InputData}
+use Rattle.preference_search.specs.declared.SearchAnswer.{SearchAnswer}
 use Rattle.scheduling.specs.declared.Scheduling.{Scheduling}
 use Rattle.score.specs.Order.{score_order}
 use Rattle.std.specs.declared.cmp.Ordering.TheVariants.{Less}
 use Rattle.scoring.specs.Calls.{verdict, plan_answer}
 use Rattle.model_buffers.specs.Answers.{model_refused}
-use Rattle.sample_day.specs.SampleDay.{sample_day, tied_day, at_first, moved, build_gives, build_leaves, move_gives, move_leaves, list_number, slot_list_of, model_gives, model_leaves, values_give, plan_left, score_given, begin_at, answers, last_answer, asks_in, run_of, planned}
+use Rattle.sample_day.specs.SampleDay.{sample_day, tied_day, at_first, moved, build_gives, build_leaves, move_gives, move_leaves, list_number, slot_list_of, model_gives, model_leaves, values_give, plan_left, score_given, begin_at, begin_all, begin_none, begin_greedy, begin_again, levels, answers, last_answer, asks_in, run_of, planned}
 
 -- a build is accepted, with these covered counts and these lists of slots 0 and 1
 pub record Builds (sch : Scheduling) (covered first second : List ℕ) : Type 0 where
@@ -33,11 +34,19 @@ pub record Models (d : InputData) (edges groups blocked : ℕ) : Type 0 where
   pub groups_are : (model_gives d).groups ≡ groups
   pub blocked_are : (model_gives d).blocked ≡ blocked
 
--- a run of the search: begun, with these asks, and ended with the sample plan, found at a level
-pub record Searches (bound : ℕ) (ts : List Told) (asks : List Ask) (count level : ℕ) : Type 0 where
+-- a search is begun, with so many asks, and so many at most
+pub record Begins (a : SearchAnswer) (count most : ℕ) : Type 0 where
+  pub begun : a.number ≡ 0
+  pub counted : a.search.asks ≡ count
+  pub most_is : a.most_asks ≡ most
+
+-- a run of the search: begun, with these asks, and so many at most; ended with the sample plan, found at a level
+pub record Searches (bound : ℕ) (ts : List Told) (asks : List Ask) (count most level : ℕ) : Type 0 where
   pub begun : (begin_at bound).number ≡ 0
   pub asks_are : asks_in bound ts ≡ asks
+  pub few : length (asks_in bound ts) ≤ (run_of bound ts).most_asks
   pub counted : (run_of bound ts).search.asks ≡ count
+  pub most_is : (run_of bound ts).most_asks ≡ most
   pub over : (run_of bound ts).search.asking ≡ false
   pub found : (run_of bound ts).search.found ≡ true
   pub optimal : (run_of bound ts).search.optimal ≡ true
@@ -66,10 +75,14 @@ rows =
     × (take 4 (model_leaves tied_day).entries ≡ 0 ∷ 3 ∷ 2 ∷ 4 ∷ []) × (take 2 (model_leaves tied_day).ends ≡ 2 ∷ 4 ∷ []) × (take 1 (model_leaves tied_day).blocked ≡ 1 ∷ []))
     -- choice 0 moved to slot 1: lists 1 and 2 0; covered 0, 3. Afresh: 1 and 0 2
     ∷ (Moves (0 ∷ 3 ∷ []) (1 ∷ []) (2 ∷ 0 ∷ []) × Builds moved (0 ∷ 3 ∷ []) (1 ∷ []) (0 ∷ 2 ∷ []))
-    -- five levels, start 0, only the last two feasible: asks at 2, 3; answer 3
-    ∷ Searches 0 answers (ask_at 2 2 ∷ ask_at 3 3 ∷ []) 2 3
+    -- five levels, start 0, only the last two feasible: asks at 2, 3, of 3 at most; answer 3
+    ∷ Searches 0 answers (ask_at 2 2 ∷ ask_at 3 3 ∷ []) 2 3 3
     -- no level at or above the bound: one ask, at the last
-    ∷ Searches 5 last_answer (ask_at 4 4 ∷ []) 1 4
+    ∷ Searches 5 last_answer (ask_at 4 4 ∷ []) 1 1 4
+    -- begun over 256 levels: 9 asks at most; over none: no ask; greedy, with levels and without: one
+    ∷ (Begins begin_all 1 9 × Begins begin_none 0 0 × Begins (begin_greedy levels) 1 1 × Begins (begin_greedy []) 1 1)
+    -- answered from memory: no ask, of the 3 at most, or the one, that there would be otherwise
+    ∷ (Begins (begin_again 0) 0 3 × Begins (begin_again 5) 0 1)
     -- with equal majors, minor -0.0 is less than +0.0
     ∷ (score_order (record { major = fin false 1 (pos 0); minor = fin true 0 (pos 0) }) (record { major = fin false 1 (pos 0); minor = fin false 0 (pos 0) }) ≡ Less)
     ∷ []

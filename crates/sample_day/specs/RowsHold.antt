@@ -8,8 +8,9 @@ use Rattle.assignment.specs.Plan.{bad_plan_for}
 use Rattle.preference_search_checks.specs.Checks.{begin_number}
 use Rattle.assignment_solver.specs.Calls.{begin_answer}
 use Rattle.preference_search_runs.specs.Run.{counted, outcome, RunIsSearch}
-use Rattle.preference_search.specs.Search.{Told, Ask, Outcome, ask_at, found_at, start_of, middle, search_from, search_levels}
-use Rattle.preference_search.specs.Steps.{known_by, remembers, begun_levels, begun_answer, next}
+use Rattle.preference_search.specs.Search.{Told, Ask, Outcome, ask_at, found_at, start_of, middle, search_from, search_levels, most_asks}
+use Rattle.preference_search.specs.Steps.{known_by, remembers, begun_answer}
+use Rattle.preference_search_runs.specs.MostAsksHold.{few_asks}
 use Rattle.preference_search_runs.specs.Whole.{run_is_search}
 use Rattle.preference_search.specs.declared.Known.{Known}
 use Rattle.carried_states.specs.Agreement.{Call, Carried, number_of, after_build, updated}
@@ -57,6 +58,8 @@ use Rattle.model_buffers.specs.Answers as Counts
 use Rattle.flow_model.specs.Calls as Model
 use Rattle.sample_day.specs.SampleDay.{sample_day, tied_day, search_day, at_first, moved, preferences, costs, buffer, build_number_of, build_gives, build_leaves, move_number, move_gives, move_leaves, list_number, slot_list_of, at_limit_one, zeros, model_number_of, model_gives, model_leaves, valued, zero_plan, enter_number_of, values_number_of, values_give, plan_left, score_given, levels, nothing_cached, begin_at, answers, last_answer, run_of, planned}
 use Rattle.sample_day.specs.Rows.{Builds, Moves, Models, Searches, rows, All}
+use Rattle.sample_day.specs.SampleBegins.{five, one, all_begins, none_begins, greedy_begins, greedy_none_begins, again_begins, again_last_begins}
+use Rattle.sample_day.specs.SampleMemory.{search_accepted}
 
 -- ---- build
 
@@ -285,33 +288,32 @@ quarter = (refl, refl, refl)
 
 -- ---- the search
 
-pub search_accepted : begin_number full_day search_day at_first levels nothing_cached ≡ 0
-unfolding begin_number day_number late_number first_of has_bad_levels member_count some_below fold_to
-search_accepted = refl
-
 begin_zero : (begin_at 0).number ≡ 0
-unfolding begin_answer begun_answer remembers begun_levels next start_of first_to middle begin_number day_number late_number first_of has_bad_levels member_count some_below fold_to
+unfolding begin_answer begun_answer begin_number day_number late_number first_of has_bad_levels member_count some_below fold_to
 begin_zero = refl
 
 begin_five : (begin_at 5).number ≡ 0
-unfolding begin_answer begun_answer remembers begun_levels next start_of first_to middle begin_number day_number late_number first_of has_bad_levels member_count some_below fold_to
+unfolding begin_answer begun_answer begin_number day_number late_number first_of has_bad_levels member_count some_below fold_to
 begin_five = refl
 
 begun : (bound : ℕ) (ts : List Told) → RunIsSearch full_day search_day at_first levels bound false nothing_cached (begin_at bound) ts
 begun bound ts = run_is_search full_day search_day at_first levels bound false nothing_cached full_within search_accepted ts
 
 -- a run whose search ends with the sample plan, found at a level
-ended_at : (bound level : ℕ) (ts : List Told) (asks : List Ask) → (begin_at bound).number ≡ 0
+ended_at : (bound most level : ℕ) (ts : List Told) (asks : List Ask) → (begin_at bound).number ≡ 0 → most_asks false 5 (start_of levels bound) ≡ most
     → outcome search_day at_first levels bound false nothing_cached (counted full_day search_day (kept_of search_day at_first) ts) ≡ record { asks = asks; known = found_at 4 level planned true; over = true }
-    → Searches bound ts asks (length asks) level
+    → Searches bound ts asks (length asks) most level
 unfolding fold_to
-ended_at bound level ts asks e p =
+ended_at bound most level ts asks e q p =
     let r = (begun bound ts).is in
+    let bounded = few_asks full_day search_day at_first levels bound false nothing_cached full_within search_accepted ts in
     let knows : known_by (run_of bound ts).search ≡ found_at 4 level planned true = r.knows_it ∙ ap (λ (o : Outcome). o.known) p in
     record {
       begun = e;
       asks_are = r.asks_are ∙ ap (λ (o : Outcome). o.asks) p;
+      few = bounded.few;
       counted = r.count_is ∙ ap (λ (o : Outcome). length o.asks) p;
+      most_is = bounded.most_is ∙ q;
       over = r.waits ∙ ap (λ (o : Outcome). not o.over) p;
       found = ap (λ (k : Known). k.found) knows;
       optimal = ap (λ (k : Known). k.optimal) knows;
@@ -319,13 +321,13 @@ ended_at bound level ts asks e p =
       plan_is = ap (λ (k : Known). take 4 k.plan) knows;
     }
 
-two_asks : Searches 0 answers (ask_at 2 2 ∷ ask_at 3 3 ∷ []) 2 3
+two_asks : Searches 0 answers (ask_at 2 2 ∷ ask_at 3 3 ∷ []) 2 3 3
 unfolding remembers counted bad_plan_for search_levels search_from start_of first_to middle fold_to
-two_asks = ended_at 0 3 answers (ask_at 2 2 ∷ ask_at 3 3 ∷ []) begin_zero refl
+two_asks = ended_at 0 3 3 answers (ask_at 2 2 ∷ ask_at 3 3 ∷ []) begin_zero five refl
 
-one_ask : Searches 5 last_answer (ask_at 4 4 ∷ []) 1 4
+one_ask : Searches 5 last_answer (ask_at 4 4 ∷ []) 1 1 4
 unfolding remembers counted bad_plan_for search_levels search_from start_of first_to middle fold_to
-one_ask = ended_at 5 4 last_answer (ask_at 4 4 ∷ []) begin_five refl
+one_ask = ended_at 5 1 4 last_answer (ask_at 4 4 ∷ []) begin_five one refl
 
 -- ---- all rows
 
@@ -342,7 +344,7 @@ sample_day_lem = (
           (refused_answer (values_number_of 0) 17 (at_limit_one sample_day) (checked_with_lem 0 ∙ out_of_balance) refl, ap (take 4) (kept_plan_lem (values_number_of 0) 17 (written zero_plan 0 (plan_of full_day (at_limit_one sample_day) (valued 0))) zero_plan (checked_with_lem 0 ∙ out_of_balance) refl)),
           (
             (models tied_day tied_accepted tied_model tied_counts, ap (λ b. take 4 b.entries) (model_left tied_day tied_accepted tied_model) ∙ tied_left.0, ap (λ b. take 2 b.ends) (model_left tied_day tied_accepted tied_model) ∙ tied_left.1, ap (λ b. take 1 b.blocked) (model_left tied_day tied_accepted tied_model) ∙ tied_left.2),
-            ((moves, builds_moved), (two_asks, (one_ask, (minus_zero_first, tt)))),
+            ((moves, builds_moved), (two_asks, (one_ask, ((all_begins, none_begins, greedy_begins, greedy_none_begins), ((again_begins, again_last_begins), (minus_zero_first, tt)))))),
           ),
         ),
       ),

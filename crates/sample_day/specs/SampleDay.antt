@@ -1,5 +1,5 @@
 -- The sample day (SPEC 13.1), and what the calls give and leave on it, by the promises that their contracts cite. Definitions only.
-use Rattle.std.specs.Prelude.{ℕ, false, cond, List, [], ◌∷◌, eqb, leb, ℤ, pos, Float, length, replicate}
+use Rattle.std.specs.Prelude.{ℕ, true, false, cond, List, [], ◌∷◌, eqb, leb, ℤ, pos, Float, length, replicate}
 use Rattle.std.specs.Float.{fin}
 use Rattle.assignment_solver.specs.Calls.{begin_answer}
 use Rattle.preference_search_runs.specs.Run.{asks_of, run}
@@ -13,6 +13,7 @@ use Rattle.input_data.specs.declared.ConstraintList.{ConstraintList}
 use Rattle.input_data.specs.declared.ConstraintNumbers.{ConstraintNumbers}
 use Rattle.input_data.specs.declared.InputData.{InputData}
 use Rattle.plans.specs.Model.{ModelInput, model_input, model_number, enter_number, plan_of}
+use Rattle.counting.specs.Fold.{table_to}
 use Rattle.counting.specs.Written.{written}
 use Rattle.schedule_state.specs.Calls as State
 use Rattle.schedule_state.specs.declared.AssignmentScheduleState.{AssignmentScheduleState}
@@ -169,6 +170,23 @@ nothing_cached = cached false false (replicate 32 0) no_plan
 abbrev pub begin_at : ℕ → SearchAnswer
 begin_at bound = begin_answer full_day search_day at_first levels bound false nothing_cached
 
+-- as many levels as there may be, 0 to 255, and a day that allows them
+abbrev pub all_levels : List ℕ
+all_levels = table_to 256 (λ k. k)
+
+abbrev pub levels_day : InputData
+levels_day = day_with 255 no_constraints
+
+abbrev pub begin_all : SearchAnswer
+begin_all = begin_answer full_day levels_day at_first all_levels 0 false nothing_cached
+
+abbrev pub begin_none : SearchAnswer
+begin_none = begin_answer full_day search_day at_first [] 0 false nothing_cached
+
+-- a greedy search with these levels
+abbrev pub begin_greedy : List ℕ → SearchAnswer
+begin_greedy some = begin_answer full_day search_day at_first some 0 true nothing_cached
+
 -- a solver that finds the sample plan at the last two levels only
 abbrev pub planned : List ℕ
 planned = 1 ∷ 2 ∷ 0 ∷ 2 ∷ replicate 508 0
@@ -189,3 +207,7 @@ asks_in bound ts = asks_of full_day search_day levels (begin_at bound) ts
 
 abbrev pub run_of : ℕ → List Told → SearchAnswer
 run_of bound ts = run full_day search_day levels (begin_at bound) ts
+
+-- the same schedule searched again, with what the search at level 3 remembers
+abbrev pub begin_again : ℕ → SearchAnswer
+begin_again bound = begin_answer full_day search_day at_first levels bound false (run_of 0 answers).search.cached

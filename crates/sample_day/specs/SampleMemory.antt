@@ -5,10 +5,11 @@ use Rattle.assignment.specs.Plan.{bad_plan_for, kept_plan}
 use Rattle.assignment_solver.specs.Calls.{begin_answer}
 use Rattle.preference_search.specs.Search.{start_of, middle, search_from, search_levels}
 use Rattle.preference_search.specs.Steps.{remembers}
+use Rattle.preference_search_checks.specs.Checks.{begin_number}
 use Rattle.preference_search.specs.declared.Known.{Known}
 use Rattle.counting.specs.Fold.{fold_to, some_below}
 use Rattle.counting.specs.Search.{first_to}
-use Rattle.input_data.specs.Checks.{has_bad_levels}
+use Rattle.input_data.specs.Checks.{first_of, day_number, late_number, member_count, has_bad_levels}
 use Rattle.input_data.specs.Lengths.{full_day}
 use Rattle.input_data.specs.Numbers.{full_within}
 use Rattle.preference_search_runs.specs.Memory.{OfDay, Recalled, Serves}
@@ -16,7 +17,10 @@ use Rattle.preference_search_runs.specs.Remembered.{run_serves}
 use Rattle.preference_search_runs.specs.Run.{counted}
 use Rattle.preference_search_runs.specs.Whole.{run_is_search}
 use Rattle.sample_day.specs.SampleDay.{levels, search_day, at_first, planned, nothing_cached, answers, run_of}
-use Rattle.sample_day.specs.RowsHold.{search_accepted}
+
+pub search_accepted : begin_number full_day search_day at_first levels nothing_cached ≡ 0
+unfolding begin_number day_number late_number first_of has_bad_levels member_count some_below fold_to
+search_accepted = refl
 
 -- the search from bound 0 on has ended, with the sample plan, which is optimal
 record Found : Type 0 where
@@ -36,10 +40,10 @@ sample_found =
       plan = ap (λ (k : Known). k.plan) r.knows_it;
     }
 
-serves : Serves full_day search_day at_first false (run_of 0 answers).search
+pub serves : Serves full_day search_day at_first false (run_of 0 answers).search
 serves = (run_serves full_day search_day at_first levels 0 false nothing_cached full_within search_accepted answers).serves
 
-same_day : OfDay search_day at_first levels
+pub same_day : OfDay search_day at_first levels
 unfolding some_below has_bad_levels fold_to
 same_day = record { inside = refl; ascend = refl }
 

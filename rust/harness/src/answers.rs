@@ -108,11 +108,12 @@ pub fn refused_model(number: u32) -> ModelAnswer {
 
 /// What a search gives.
 pub fn search(step: Step) -> SearchAnswer {
-    let Step { level, index, search } = step;
-    SearchAnswer { number: 0, level, index: boundary::word(index), search: search.into() }
+    let Step { level, index, search, most_asks } = step;
+    let (index, search) = (boundary::word(index), search.into());
+    SearchAnswer { number: 0, level, index, search, most_asks }
 }
 
 /// A number and zeros.
 pub fn refused_search(number: u32) -> SearchAnswer {
-    SearchAnswer { number, level: 0, index: 0, search: Search::default() }
+    SearchAnswer { number, level: 0, index: 0, search: Search::default(), most_asks: 0 }
 }

@@ -111,7 +111,7 @@ structs! {
     RosterAnswer { number, length }
     InChoiceAnswer { number, found }
     ChoiceAnswer { number, choice }
-    SearchAnswer { number, level, index, search }
+    SearchAnswer { number, level, index, search, most_asks }
     VerdictAnswer { number, holds }
     ScoreAnswer { number, score }
 }

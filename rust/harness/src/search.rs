@@ -134,6 +134,7 @@ pub struct Step {
     pub level: u32,
     pub index: usize,
     pub search: Search,
+    pub most_asks: u32,
 }
 
 /// The results that a search is told. Any other is Incomplete.
@@ -145,17 +146,28 @@ pub fn begun(day: &Day, schedule: Scheduling, cached: Memory) -> Step {
     let schedule = kept(day, schedule);
     let search =
         Search { greedy: day.greedy, optimal: !day.greedy, schedule, cached, ..Search::NONE };
-    if remembers(day, &cached, schedule) {
+    let last = day.levels.len().saturating_sub(1);
+    let start = day.levels.iter().position(|&level| level >= day.bound).unwrap_or(last);
+    let step = if remembers(day, &cached, schedule) {
         let plan = seats(day, &cached.plan);
-        return stopped(Search { found: true, optimal: true, plan, ..search });
-    }
-    match day.levels.len().checked_sub(1) {
-        _ if day.greedy => asking(day, search),
-        None => ended(search),
-        Some(last) => {
-            let start = day.levels.iter().position(|&level| level >= day.bound).unwrap_or(last);
-            asking(day, Search { start, low: start, high: last, ..search })
-        }
+        stopped(Search { found: true, optimal: true, plan, ..search })
+    } else if day.greedy {
+        asking(day, search)
+    } else if day.levels.is_empty() {
+        ended(search)
+    } else {
+        asking(day, Search { start, low: start, high: last, ..search })
+    };
+    Step { most_asks: most_asks(day.greedy, day.levels.len() - start), ..step }
+}
+
+/// The most asks of a search with so many levels from its start on: as many as
+/// that count has digits when it is written in binary.
+fn most_asks(greedy: bool, count: usize) -> u32 {
+    match count {
+        _ if greedy => 1,
+        0 => 0,
+        _ => word(format!("{count:b}").len()),
     }
 }
 
@@ -167,6 +179,12 @@ pub fn remembers(day: &Day, cached: &Memory, schedule: Scheduling) -> bool {
 /// The search told the answer to its ask. The plan is looked at where it is
 /// Feasible.
 pub fn told(day: &Day, search: &Search, told: Told, plan: &[u8]) -> Step {
+    // A greedy search has no start, whatever stands there.
+    let count = day.levels.len().saturating_sub(search.start);
+    Step { most_asks: most_asks(search.greedy, count), ..answered(day, search, told, plan) }
+}
+
+fn answered(day: &Day, search: &Search, told: Told, plan: &[u8]) -> Step {
     let mut next = Search { schedule: kept(day, search.schedule), ..*search };
     let (index, level) = asked(day, search);
     let is_feasible = told == Told::Feasible;
@@ -202,7 +220,7 @@ fn asked(day: &Day, search: &Search) -> (usize, u32) {
 fn asking(day: &Day, search: Search) -> Step {
     let (index, level) = asked(day, &search);
     let search = Search { asking: true, asks: search.asks + 1, ..search };
-    Step { level, index, search }
+    Step { level, index, search, most_asks: 0 }
 }
 
 /// The search at its end: an optimal plan is remembered.
@@ -215,7 +233,7 @@ fn ended(mut search: Search) -> Step {
 }
 
 fn stopped(search: Search) -> Step {
-    Step { level: 0, index: 0, search: Search { asking: false, ..search } }
+    Step { level: 0, index: 0, search: Search { asking: false, ..search }, most_asks: 0 }
 }
 
 /// What a search asks for at a level, as the Rust tells it.

@@ -157,7 +157,8 @@ pub struct Search {
     pub cached: CachedAssignment,
 }
 
-/// What a search asks for.
+/// What a search asks for. One that is begun, and told each time as it was last
+/// handed back, makes no more asks than `most_asks`, of which `search` counts those made.
 #[repr(C)]
 #[derive(Debug, Clone, Copy, PartialEq, Eq)]
 pub struct SearchAnswer {
@@ -165,6 +166,7 @@ pub struct SearchAnswer {
     pub level: u32,
     pub index: u32,
     pub search: Search,
+    pub most_asks: u32,
 }
 
 /// Whether a test holds.

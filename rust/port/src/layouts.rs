@@ -81,7 +81,7 @@ pub const MEASURES: &[Measure] = measures! {
     RosterAnswer { number, length }
     InChoiceAnswer { number, found }
     ChoiceAnswer { number, choice }
-    SearchAnswer { number, level, index, search }
+    SearchAnswer { number, level, index, search, most_asks }
     VerdictAnswer { number, holds }
     ScoreAnswer { number, score }
 };

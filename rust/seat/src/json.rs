@@ -80,9 +80,11 @@ fn of_step(day: &Day, report: &Report, step: &Step, has_model: bool) -> Json {
             fields.push(("refused", of_refusal(refusal)));
             fields
         }
-        Step::Search(FirstAsk(ask)) => {
-            vec![kind("search"), ("first_ask", ask.map_or(Null, number))]
-        }
+        Step::Search(FirstAsk { level, most_asks }) => vec![
+            kind("search"),
+            ("first_ask", level.map_or(Null, number)),
+            ("most_asks", number(*most_asks)),
+        ],
         Step::Model(model) => of_model(day, model, has_model),
         Step::Schedule { is_feasible } => {
             vec![kind("schedule"), ("is_feasible", Bool(*is_feasible))]

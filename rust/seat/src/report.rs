@@ -47,9 +47,13 @@ pub struct Score {
     pub is_finite: bool,
 }
 
-/// What a search over the levels asks for first: a level, or nothing.
+/// What a search over the levels asks for first, a level or nothing, and how
+/// many asks it makes at most.
 #[derive(Debug, Clone, Copy)]
-pub struct FirstAsk(pub Option<u32>);
+pub struct FirstAsk {
+    pub level: Option<u32>,
+    pub most_asks: u32,
+}
 
 #[derive(Debug)]
 pub enum Step {

@@ -122,7 +122,8 @@ impl<'a> Scheduled<'a> {
         let answer = port::begin(input, schedule, levels, *bound, u32::from(*is_greedy), &none);
         accepted("search", answer.number)
             .map_err(|refusal| refusal.because(explain::day(self.day, answer.number)))?;
-        Ok(FirstAsk(answer.search.is_asking().then_some(answer.level)))
+        let level = answer.search.is_asking().then_some(answer.level);
+        Ok(FirstAsk { level, most_asks: answer.most_asks })
     }
 
     fn model(&self) -> Result<Model, Refusal> {

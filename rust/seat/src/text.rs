@@ -61,10 +61,7 @@ impl Printer<'_> {
             _ if !is_whole => Vec::new(),
             Step::Built(lists) => self.with_lists("build".to_owned(), lists),
             Step::Moved { own, lists, .. } => self.with_lists(self.day.move_words(*own), lists),
-            Step::Search(FirstAsk(ask)) => vec![match ask {
-                Some(level) => format!("search: asks for level {level} first"),
-                None => "search: has nothing to ask for".to_owned(),
-            }],
+            Step::Search(ask) => vec![search_words(*ask)],
             Step::Model(model) => self.model(model),
             Step::Schedule { is_feasible } => {
                 vec![format!("schedule: {}", verdict(*is_feasible))]
@@ -186,6 +183,14 @@ impl Printer<'_> {
             format!("  {}: {}", self.full(Slot, slot), self.full(Choice, choice as usize))
         });
         [self.full(Chooser, chooser)].into_iter().chain(lines).collect()
+    }
+}
+
+fn search_words(FirstAsk { level, most_asks }: FirstAsk) -> String {
+    let asks = if most_asks == 1 { "ask" } else { "asks" };
+    match level {
+        Some(level) => format!("search: asks for level {level} first, {most_asks} {asks} at most"),
+        None => "search: has nothing to ask for".to_owned(),
     }
 }
 

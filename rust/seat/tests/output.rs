@@ -13,7 +13,7 @@ move of choice 0 to slot 1
 move of choice 0 to slot 0
   slot 0: covered 1, list 1 0
   slot 1: covered 2, list 2
-search: asks for level 1 first
+search: asks for level 1 first, 2 asks at most
 model at limit 1: 8 edges, 0 groups, 0 blocked
 schedule: feasible
 plan, by its seats
@@ -149,6 +149,32 @@ fn a_greedy_score_has_no_major() {
     let ran = seat("greedy.txt", SAMPLE.to_owned() + "greedy\n", &[]);
     assert!(ran.out.ends_with("score: major NaN (greedy), minor 0.25\n"), "{}", ran.out);
     assert_eq!(ran.code, Some(0));
+}
+
+#[test]
+fn a_search_says_how_many_asks_it_makes_at_most() {
+    let file = SAMPLE.replace("max_preference 2", "max_preference 4");
+    let file = file.replace("powers 0 1 8", "powers 0 1 8 27 64");
+    let file = file.replace("costs 1 8 27", "costs 1 8 27 64 125");
+    let five = "levels 0 1 2 3 4";
+    for (levels, words) in [
+        (five.to_owned(), "asks for level 2 first, 3 asks at most"),
+        (five.to_owned() + "\nbound 3", "asks for level 3 first, 2 asks at most"),
+        (five.to_owned() + "\nbound 5", "asks for level 4 first, 1 ask at most"),
+        (five.to_owned() + "\ngreedy", "asks for level 4 first, 1 ask at most"),
+        ("levels".to_owned(), "has nothing to ask for"),
+    ] {
+        let ran = seat("search.txt", file.replace("levels 0 1 2", &levels), &[]);
+        assert!(ran.out.contains(&format!("\nsearch: {words}\n")), "{}{}", ran.out, ran.messages);
+    }
+    for (levels, fields) in [
+        (five, "\"first_ask\":2,\"most_asks\":3}"),
+        ("levels", "\"first_ask\":null,\"most_asks\":0}"),
+    ] {
+        let ran = seat("search.txt", file.replace("levels 0 1 2", levels), &["--json"]);
+        let json = "{\"step\":\"search\",".to_owned() + fields;
+        assert!(ran.out.contains(&json), "{}", ran.out);
+    }
 }
 
 #[test]

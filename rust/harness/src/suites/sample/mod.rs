@@ -8,7 +8,8 @@ use crate::answers::{self, Pair};
 use crate::boundary;
 use crate::bridge;
 use crate::day::{Day, sample_day};
-use crate::run::{Run, wanted};
+use crate::random::Random;
+use crate::run::{Outcome, Run, wanted};
 use crate::schedule::whole;
 use crate::search::Memory;
 use crate::state::LISTS;
@@ -121,18 +122,51 @@ fn limits(run: &mut Run) {
 /// Five levels of which the last two are feasible, and a bound above them all.
 fn searches(run: &mut Run) {
     let five = Day { max_preference: 4, levels: vec![0, 1, 2, 3, 4], ..sample_day() };
-    let above = Day { bound: 9, ..five.clone() };
-    one_search(run, &five, &[Told::Infeasible, Told::Feasible], (vec![2, 3], 3));
-    one_search(run, &above, &[Told::Feasible], (vec![4], 4));
+    let above = Day { bound: 5, ..five.clone() };
+    one_search(run, &five, &[Told::Infeasible, Told::Feasible], (vec![2, 3], 3, 3));
+    one_search(run, &above, &[Told::Feasible], (vec![4], 1, 4));
+    let all = Day { max_preference: 255, levels: (0..256).collect(), ..sample_day() };
+    let empty = Day { levels: Vec::new(), ..five.clone() };
+    for (day, asks) in [
+        (all, (1, 9)),
+        (empty.clone(), (0, 0)),
+        (Day { greedy: true, ..five.clone() }, (1, 1)),
+        (Day { greedy: true, ..empty }, (1, 1)),
+    ] {
+        run.case(|random| begun(random, &day, Memory::NONE, asks));
+    }
+    for (day, most) in [(&five, 3), (&above, 1)] {
+        run.case(|random| remembered(random, &five, day, most));
+    }
 }
 
-/// The levels asked for and the level found, of the Rust and of the port.
-fn one_search(run: &mut Run, day: &Day, script: &[Told], levels: (Vec<u32>, u32)) {
+/// The levels asked for, how many at most, and the level found, of the Rust and of
+/// the port.
+fn one_search(run: &mut Run, day: &Day, script: &[Told], levels: (Vec<u32>, u32, u32)) {
     let problem = bridge::problem(day);
     run.case(|random| {
         let mut walk = Walk::new(day, &problem, Memory::NONE);
         let rust = walk.search(random, &whole(&SCHEDULE), script)?;
         let asks = rust.asks.into_iter().map(|Ask { limit, .. }| limit).collect();
-        wanted((asks, walk.port.level), levels, || format!("asks of {day:?}"))
+        wanted((asks, walk.most_asks, walk.port.level), levels, || format!("asks of {day:?}"))
     });
+}
+
+/// How many asks a search has made when it is begun, and how many it makes at most.
+/// One that has made none is at its end, with the plan that was remembered.
+fn begun(random: &mut Random, day: &Day, cached: Memory, asks: (u32, u32)) -> Outcome {
+    let problem = bridge::problem(day);
+    let answer = Walk::new(day, &problem, cached).first(random, &whole(&SCHEDULE))?;
+    let trace = || format!("the begin of {day:?} with {cached:?}");
+    wanted((answer.search.asks, answer.most_asks), asks, trace)?;
+    let ends = (answer.search.is_asking(), answer.search.is_found());
+    wanted(ends, (asks.0 > 0, cached.there), trace)
+}
+
+/// What a search remembers answers the next one, which says what it saves.
+fn remembered(random: &mut Random, five: &Day, day: &Day, most: u32) -> Outcome {
+    let problem = bridge::problem(five);
+    let mut walk = Walk::new(five, &problem, Memory::NONE);
+    walk.search(random, &whole(&SCHEDULE), &[Told::Infeasible, Told::Feasible])?;
+    begun(random, day, walk.cached, (0, most))
 }

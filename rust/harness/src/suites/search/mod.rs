@@ -1,5 +1,6 @@
 //! Scripted searches of the Rust's own `solve_until` beside the port's: every
 //! path over few levels, and random ones over as many as there may be.
+mod bound;
 pub mod paths;
 pub mod refusals;
 pub mod walk;
@@ -25,6 +26,7 @@ const SCRIPT: usize = 10;
 
 pub fn run(run: &mut Run) {
     run.fixed(paths::run);
+    run.fixed(bound::run);
     random_days(run);
 }
 
@@ -123,6 +125,8 @@ fn look(features: &mut Features, day: &Day, walk: &Walk, script: &[Told]) {
     features.look("greedy without levels", search.greedy && day.levels.is_empty());
     features.look("256 levels", has_range && day.levels.len() == LEVELS);
     features.look("nine asks", asks == 9);
+    features.look("as many asks as there may be", asks > 1 && asks == walk.most_asks as usize);
+    features.look("fewer asks than there may be", has_range && asks < walk.most_asks as usize);
     features.look("a start in between", has_range && (1..last).contains(&search.start));
     features.look("a start at the last", has_range && last > 1 && search.start == last);
     features.look("a bound above all", day.levels.last().is_some_and(|&level| level < day.bound));

@@ -2,7 +2,7 @@
 //! and zeros beside it. What the damage leaves sound is compared with the second
 //! reading of the search.
 use crate::answers::{self, refused_search};
-use crate::boundary::{self, entries};
+use crate::boundary::{self, entries, kept};
 use crate::damage::{self, Damage, Input};
 use crate::day::{Day, random_day, random_size};
 use crate::day_file::{self, DayFile};
@@ -13,7 +13,7 @@ use crate::reading::{Handed, Layout, faults};
 use crate::recording::{Entry, Note, note};
 use crate::run::{Days, Outcome, Run, wanted};
 use crate::schedule::random_schedule;
-use crate::search::{FEASIBLE, INFEASIBLE, Step, begun, told};
+use crate::search::{FEASIBLE, INFEASIBLE, Step, begun, remembers, told};
 use crate::suites::refused::{self, Numbers, damaged, first};
 use oracle::Told;
 use port::guarded::Guarded;
@@ -74,6 +74,7 @@ fn begin(random: &mut Random, features: &mut Features, input: &Input) -> Outcome
     let number = first(features, "begin", &faults(&handed));
     let own = Scheduling { entries: entries(schedule) };
     let answer = answer(number, || begun(day, own, search.cached));
+    look_at_memory(features, input, number);
     let [mut lent_day, mut lent, mut cached] = layouts.map(|layout| input.lend(random, layout));
     let greedy = boundary::setting(random, day.greedy);
     note(|| {
@@ -143,6 +144,18 @@ fn without_free_range(mut answer: SearchAnswer) -> SearchAnswer {
         (answer.search.start, answer.search.low, answer.search.high) = (0, 0, 0);
     }
     answer
+}
+
+/// A search is answered from memory in every setting.
+fn look_at_memory(features: &mut Features, input: &Input, number: u32) {
+    let Input { day, schedule, search, .. } = input;
+    let own = || kept(day, Scheduling { entries: entries(schedule) });
+    let is_met = number == 0 && remembers(day, &search.cached, own());
+    let (greedy, empty) = (day.greedy, day.levels.is_empty());
+    features.look("begin answered from memory", is_met && !greedy && !empty);
+    features.look("begin answered from memory, no levels", is_met && !greedy && empty);
+    features.look("begin answered from memory, greedy", is_met && greedy && !empty);
+    features.look("begin answered from memory, greedy, no levels", is_met && greedy && empty);
 }
 
 /// A told plan that would be refused makes no difference beside another result.

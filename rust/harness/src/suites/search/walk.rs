@@ -27,6 +27,8 @@ pub struct Walk<'a> {
     pub cached: Memory,
     /// The port's last search.
     pub port: Search,
+    /// How many asks it said that it makes at most.
+    pub most_asks: u32,
 }
 
 impl<'a> Walk<'a> {
@@ -39,7 +41,23 @@ impl<'a> Walk<'a> {
             levels: Guarded::holding(&day.levels),
             cached,
             port: Search::NONE,
+            most_asks: 0,
         }
+    }
+
+    /// A search begun, and no more. Where the memory answers it is at its end.
+    pub fn first(
+        &mut self,
+        random: &mut Random,
+        schedule: &Schedule,
+    ) -> Result<SearchAnswer, Failure> {
+        let own = self.day;
+        let cached = boundary::remembered(random, own, self.cached);
+        let trace = || format!("{own:?} {schedule:?} with {cached:?}");
+        day_file::note(|| self.day_file(schedule, &[], &cached));
+        let day = boundary::day(random, own);
+        let lent = boundary::schedule(random, own, schedule);
+        self.begin(random, &day, lent, cached, &trace)
     }
 
     /// A search told what the script says, one entry an ask, compared at each.
@@ -61,6 +79,7 @@ impl<'a> Walk<'a> {
         let day = boundary::day(random, own);
         let lent = boundary::schedule(random, own, schedule);
         let mut answer = self.begin(random, &day, lent, cached, &trace)?;
+        self.most_asks = answer.most_asks;
         for (place, &entry) in script.iter().enumerate() {
             let ask = ask_of(&answer.search.into(), answer.level);
             same(ask, rust.asks.get(place).cloned(), trace)?;
@@ -69,8 +88,11 @@ impl<'a> Walk<'a> {
             }
             let plan = self.plan(random, entry, answer.level);
             answer = self.tell(random, &day, &answer.search, (entry, &plan), &trace)?;
+            same(answer.most_asks, self.most_asks, trace)?;
         }
         same(answer.search.asks as usize, rust.asks.len(), trace)?;
+        let is_within = rust.asks.len() <= self.most_asks as usize;
+        wanted(is_within, true, || format!("{} asks at most in {}", self.most_asks, trace()))?;
         self.is_over(random, &day, &answer.search, &trace)?;
         self.ends(&answer.search.into(), &rust, &trace)?;
         Ok(rust)
