@@ -58,10 +58,10 @@ search_few false levels bound most n ts = eq_cases (length levels) 0
     let s = start_of levels bound in
     range_few levels n s (binary_digits (length levels - s)) s (length levels - 1) nothing ts (le_refl s) (omega (arith, digits_pass (length levels - s)))))
 
-none_without_levels : (greedy : Bool) (levels : List ℕ) (bound : ℕ) → greedy ≡ false → levels ≡ [] → most_asks greedy (length levels) (start_of levels bound) ≤ 0
+none_without_levels : (greedy : Bool) (levels : List ℕ) (bound : ℕ) → greedy ≡ false → levels ≡ [] → most_asks greedy (length levels) (start_of levels bound) ≡ 0
 none_without_levels greedy levels bound g n =
     let z : length levels - start_of levels bound ≡ 0 = omega (arith, ap length n) in
-    rw (g, z, no_digits) (le_refl 0)
+    rw (g, z) no_digits
 
 -- ---- what is reported
 

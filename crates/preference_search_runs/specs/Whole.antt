@@ -115,7 +115,7 @@ module _ (l : Limits) (d : InputData) (levels : List ℕ) where
 
 -- ---- a run from some ask on
 
--- IsSearch, with n asks counted before
+-- SameAsSearch, with n asks counted before
 record Makes (n : ℕ) (o : Outcome) (m : CachedAssignment) (asks : List Ask) (a : SearchAnswer) : Type 0 where
   asks_are : asks ≡ o.asks
   count_is : a.search.asks ≡ n + length o.asks

@@ -94,10 +94,7 @@ fn row_of_begin(rt: &HostRuntime, name: &str, begin: Begin) -> io::Result<()> {
 
 // As many levels as there may be, and none; greedy with levels and without.
 fn rows_of_begins(rt: &HostRuntime) -> io::Result<()> {
-    let mut all = [0; 256];
-    for i in 0..256 {
-        all[i] = i as u32;
-    }
+    let all: [u32; 256] = counting::table(0, |level| level as u32);
     let rows: [(&str, u32, &[u32], bool); 4] = [
         ("over 256 levels", 255, &all, false),
         ("without levels", 4, &[], false),

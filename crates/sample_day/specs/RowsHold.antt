@@ -58,7 +58,7 @@ use Rattle.model_buffers.specs.Answers as Counts
 use Rattle.flow_model.specs.Calls as Model
 use Rattle.sample_day.specs.SampleDay.{sample_day, tied_day, search_day, at_first, moved, preferences, costs, buffer, build_number_of, build_gives, build_leaves, move_number, move_gives, move_leaves, list_number, slot_list_of, at_limit_one, zeros, model_number_of, model_gives, model_leaves, valued, zero_plan, enter_number_of, values_number_of, values_give, plan_left, score_given, levels, nothing_cached, begin_at, answers, last_answer, run_of, planned}
 use Rattle.sample_day.specs.Rows.{Builds, Moves, Models, Searches, rows, All}
-use Rattle.sample_day.specs.SampleBegins.{five, one, all_begins, none_begins, greedy_begins, greedy_none_begins, again_begins, again_last_begins}
+use Rattle.sample_day.specs.SampleBegins.{digits_of_five, digits_of_one, all_begins, none_begins, greedy_begins, greedy_none_begins, again_begins, again_last_begins}
 use Rattle.sample_day.specs.SampleMemory.{search_accepted}
 
 -- ---- build
@@ -323,11 +323,11 @@ ended_at bound most level ts asks e q p =
 
 two_asks : Searches 0 answers (ask_at 2 2 ∷ ask_at 3 3 ∷ []) 2 3 3
 unfolding remembers counted bad_plan_for search_levels search_from start_of first_to middle fold_to
-two_asks = ended_at 0 3 3 answers (ask_at 2 2 ∷ ask_at 3 3 ∷ []) begin_zero five refl
+two_asks = ended_at 0 3 3 answers (ask_at 2 2 ∷ ask_at 3 3 ∷ []) begin_zero digits_of_five refl
 
 one_ask : Searches 5 last_answer (ask_at 4 4 ∷ []) 1 1 4
 unfolding remembers counted bad_plan_for search_levels search_from start_of first_to middle fold_to
-one_ask = ended_at 5 1 4 last_answer (ask_at 4 4 ∷ []) begin_five one refl
+one_ask = ended_at 5 1 4 last_answer (ask_at 4 4 ∷ []) begin_five digits_of_one refl
 
 -- ---- all rows
 

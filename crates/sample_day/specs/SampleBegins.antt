@@ -20,19 +20,19 @@ use Rattle.sample_day.specs.SampleDay.{levels, all_levels, search_day, levels_da
 use Rattle.sample_day.specs.SampleMemory.{search_accepted, serves, same_day, sample_recalled}
 
 -- five levels have three digits, one has one, and 256 have nine
-pub five : binary_digits 5 ≡ 3
-five = sym (digits_are 5 3 (omega arith) (omega arith))
+pub digits_of_five : binary_digits 5 ≡ 3
+digits_of_five = sym (digits_are 5 3 (omega arith) (omega arith))
 
-pub one : binary_digits 1 ≡ 1
-one = sym (digits_are 1 1 (omega arith) (omega arith))
+pub digits_of_one : binary_digits 1 ≡ 1
+digits_of_one = sym (digits_are 1 1 (omega arith) (omega arith))
 
-most_of_all : binary_digits 256 ≡ 9
-most_of_all = sym (digits_are 256 9 (omega arith) (omega arith))
+digits_of_256 : binary_digits 256 ≡ 9
+digits_of_256 = sym (digits_are 256 9 (omega arith) (omega arith))
 
-begins : (d : InputData) (some : List ℕ) (bound : ℕ) (greedy : Bool) (c : CachedAssignment) (asks most : ℕ) → begin_number full_day d at_first some c ≡ 0
-    → (begun_step d at_first some bound greedy c).search.asks ≡ asks → most_asks greedy (length some) (start_of some bound) ≡ most → Begins (begin_answer full_day d at_first some bound greedy c) asks most
+begins : (d : InputData) (given : List ℕ) (bound : ℕ) (greedy : Bool) (c : CachedAssignment) (asks most : ℕ) → begin_number full_day d at_first given c ≡ 0
+    → (begun_step d at_first given bound greedy c).search.asks ≡ asks → most_asks greedy (length given) (start_of given bound) ≡ most → Begins (begin_answer full_day d at_first given bound greedy c) asks most
 unfolding begun_answer
-begins d some bound greedy c asks most e p q = rw (begin_is full_day d at_first some bound greedy c full_within e) (record { begun = refl; counted = p; most_is = q })
+begins d given bound greedy c asks most e p q = rw (begin_is full_day d at_first given bound greedy c full_within e) (record { begun = refl; counted = p; most_is = q })
 
 none_accepted : begin_number full_day search_day at_first [] nothing_cached ≡ 0
 unfolding begin_number day_number late_number first_of has_bad_levels member_count some_below fold_to
@@ -44,7 +44,7 @@ all_accepted = refl
 
 pub all_begins : Begins begin_all 1 9
 unfolding begun_step begun_levels next remembers start_of first_to fold_to
-all_begins = begins levels_day all_levels 0 false nothing_cached 1 9 all_accepted refl most_of_all
+all_begins = begins levels_day all_levels 0 false nothing_cached 1 9 all_accepted refl digits_of_256
 
 pub none_begins : Begins begin_none 0 0
 unfolding begun_step begun_levels remembers start_of first_to fold_to
@@ -67,8 +67,8 @@ again bound most q =
 
 pub again_begins : Begins (begin_again 0) 0 3
 unfolding start_of first_to fold_to
-again_begins = again 0 3 five
+again_begins = again 0 3 digits_of_five
 
 pub again_last_begins : Begins (begin_again 5) 0 1
 unfolding start_of first_to fold_to
-again_last_begins = again 5 1 one
+again_last_begins = again 5 1 digits_of_one

@@ -185,7 +185,7 @@ begin_none = begin_answer full_day search_day at_first [] 0 false nothing_cached
 
 -- a greedy search with these levels
 abbrev pub begin_greedy : List ℕ → SearchAnswer
-begin_greedy some = begin_answer full_day search_day at_first some 0 true nothing_cached
+begin_greedy given = begin_answer full_day search_day at_first given 0 true nothing_cached
 
 -- a solver that finds the sample plan at the last two levels only
 abbrev pub planned : List ℕ

@@ -158,7 +158,7 @@ pub struct Search {
 }
 
 /// What a search asks for. One that is begun, and told each time as it was last
-/// handed back, makes no more asks than `most_asks`, of which `search` counts those made.
+/// handed back, makes no more asks than `most_asks`; `search` counts those made.
 #[repr(C)]
 #[derive(Debug, Clone, Copy, PartialEq, Eq)]
 pub struct SearchAnswer {
