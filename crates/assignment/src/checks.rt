@@ -23,12 +23,11 @@ fn bad_plan(day: &Day, plan: &[u8]) -> bool
 
 // 13, beside a schedule: an entry is no choice, or one without a slot.
 #[tactic(auto, unfolding(crate::specs::Plan::bad_plan_for))]
-pub fn bad_plan_for(day: &Day, entries: &[u8; 32], plan: &[u8]) -> bool
-    requires { (day.now.choices ≤ 32) × (seats day.now ≤ length plan.now) }
-    ensures { result ≡ bad_plan_for day.now.choices (seats day.now) entries.now plan.now }
+pub fn bad_plan_for(choices: usize, seats: usize, entries: &[u8; 32], plan: &[u8]) -> bool
+    requires { (choices ≤ 32) × (seats ≤ length plan.now) }
+    ensures { result ≡ bad_plan_for choices seats entries.now plan.now }
 {
-    let choices = day.choices();
-    any_below(day.seats(), |i| {
+    any_below(seats, |i| {
         let k = plan[i] as usize;
         choices <= k || entries[k] == 0
     })

@@ -1,6 +1,8 @@
 // constraint.rs: the kinds of constraints, their numbers, and negation.
 #![tactic(auto)]
 
+pub mod numbers;
+
 ghost use Rattle.std.specs.Prelude.{◌≡◌};
 ghost use Rattle.constraint.specs.Kind.{kind_number, kind_of, is_valid, is_scheduling, is_assignment};
 ghost use Rattle.constraint.specs.Cases.{operator_number, operator_of, negated_operator, case_of_target, target_operand, target_of, case_of_extra, extra_operand, extra_of};

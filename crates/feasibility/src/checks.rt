@@ -27,7 +27,7 @@ pub fn check_parts(day: &Day, schedule: &[u8; 32], plan: &[u8]) -> Result<(), Re
     ensures { outcome result ≡ parts_number true true day.now (schedule_of schedule.now) plan.now }
 {
     check_schedule(day, schedule)?;
-    if assignment::bad_plan_for(day, schedule, plan) {
+    if assignment::bad_plan_for(day.choices(), day.seats(), schedule, plan) {
         return Err(Refusal::Plan);
     }
     Ok(())

@@ -2,7 +2,7 @@
 ghost use Rattle.flow_model.specs.Entering.{InputFound};
 
 use day_checks::{bad_costs, bad_preferences};
-use input_data::{Beside, Day, FixedLimits, NOTHING};
+use input_data::{Beside, Day, FixedLimits, NOTHING, too_many};
 use model_buffers::{Lengths, LentInput, short_buffers, wrong_tables};
 use refusal::Refusal;
 use schedule_state::check_state;
@@ -21,6 +21,10 @@ pub fn check_input(
 ) -> Result<SlotSums, Refusal>
     ensures { InputFound fixed.limits day.now state.now input.now lengths short result }
 {
+    // Sizes come first: of a day that has too many no table is looked at, however long it is.
+    if too_many(fixed.limits, day.choosers(), day.choices(), day.slots()) {
+        return Err(Refusal::TooMany);
+    }
     let lists_short = input.lists.len() < fixed.lists_length();
     let own = wrong_tables(day, input) | lists_short | short_buffers(fixed, lengths) | short;
     let beside = Beside {

@@ -26,7 +26,7 @@ pub fn flag(b: &[u8], at: usize) -> bool
 }
 
 // The signed number of 32 bits.
-fn signed(x: u32) -> i32
+pub fn signed(x: u32) -> i32
     ensures { result ≡ signed_of x }
 {
     x.cast_signed()

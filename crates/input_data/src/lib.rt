@@ -10,7 +10,7 @@ mod fixed;
 ghost use Rattle.std.specs.Prelude.{◌≡◌};
 ghost use Rattle.input_data.specs.Lengths.{full_day};
 
-pub use bytes::{flag, word};
+pub use bytes::{flag, numbers_at, signed, word};
 pub use checks::{Beside, NOTHING, too_many};
 pub use constraints::Constraints;
 pub use day::Day;

@@ -32,7 +32,8 @@ fn bad_cached(day: &Day, cached: &LentCached) -> bool
     requires { Small day.now }
     ensures { result ≡ bad_cached day.now cached.now }
 {
-    cached.is_there() && bad_plan_for(day, cached.schedule(), cached.plan())
+    let (choices, seats) = (day.choices(), day.seats());
+    cached.is_there() && bad_plan_for(choices, seats, cached.schedule(), cached.plan())
 }
 
 fn beside(day: &Day, levels: &[u32], wrong: bool) -> Beside
@@ -92,8 +93,9 @@ fn is_spent(search: &LentSearch, count: usize) -> bool
 fn bad_told(t: &Telling) -> bool
     ensures { result ≡ bad_if t.now.day.now (is_feasible (told_by t.now.told.now).result) t.now.search.schedule (told_by t.now.told.now).plan }
 {
+    let (choices, seats) = (t.day.choices(), t.day.seats());
     match t.told {
-        Told::Feasible(plan) => bad_plan_for(t.day, t.search.schedule(), plan),
+        Told::Feasible(plan) => bad_plan_for(choices, seats, t.search.schedule(), plan),
         Told::Infeasible | Told::Incomplete => false,
     }
 }
@@ -102,7 +104,9 @@ fn bad_told(t: &Telling) -> bool
 fn bad_plans(t: &Telling) -> bool
     ensures { result ≡ bad_plans t.now.day.now t.now.search (told_by t.now.told.now) }
 {
-    bad_told(t) | (t.search.found() && bad_plan_for(t.day, t.search.schedule(), t.search.plan()))
+    let (choices, seats) = (t.day.choices(), t.day.seats());
+    let found = t.search.found();
+    bad_told(t) | (found && bad_plan_for(choices, seats, t.search.schedule(), t.search.plan()))
 }
 
 // 11, 13 and 18 of what a search holds and is told.

@@ -18,7 +18,7 @@ fn row_of_list(
     lists: &[u8; 256],
     slot: usize,
 ) -> io::Result<()> {
-    match schedule_updates::slot_list(day, state, lists, slot) {
+    match schedule_updates::try_slot_list(day, state, lists, slot) {
         Ok(list) => println!(rt; "slot {slot}: choices{}", Listed(list)),
         Err(refusal) => println!(rt; "slot {slot}: refused: {refusal}"),
     }

@@ -1,5 +1,5 @@
 -- What the constraint tests ask, and their laws. Assumes nothing.
-use Rattle.std.specs.Prelude.{ℕ, zero, suc, ◌<◌, ◌≤◌, ◌≡◌, List, eqb, ℤ, pos, ◌-ℤ◌, length}
+use Rattle.std.specs.Prelude.{ℕ, zero, suc, ◌≤◌, ◌≡◌, List, eqb, ℤ, pos, ◌-ℤ◌, length}
 use Rattle.std.proofs.Common.{sym, ◌∙◌, arith, eq-eqb, ne_eqb}
 use Rattle.assignment.specs.Inside.{InPlan}
 use Rattle.std.specs.Prelude.{Some}

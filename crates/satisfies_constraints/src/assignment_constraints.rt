@@ -9,14 +9,18 @@ use crate::scheduling_constraints::entry_of;
 use assignment::Seats;
 use input_data::{ConstraintNumbers, Constraints, Day};
 
-// How often a chooser has a choice.
+// How often a chooser has a choice. The count has 32 bits: of a row's few seats, a count in bytes takes longer.
 #[tactic(auto, using(assignment::specs::Inside::row_in), unfolding(crate::specs::Constraints::times_in))]
-fn times_in(seats: &Seats, chooser: usize, choice: usize) -> u8
+fn times_in(seats: &Seats, chooser: usize, choice: usize) -> u32
     requires { chooser < seats.now.choosers }
     ensures { result ≡ times_in seats.now.slots seats.now.plan.now chooser choice }
 {
     let base = chooser * seats.slots;
-    counting::count_below(seats.slots, |s| seats.plan[base + s] as usize == choice)
+    let mut times = 0;
+    for s in 0..seats.slots {
+        times += u32::from(seats.plan[base + s] as usize == choice);
+    }
+    times
 }
 
 // Whether two choices have the same choosers, each as often.

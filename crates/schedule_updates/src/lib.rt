@@ -4,5 +4,5 @@
 mod listing;
 mod state;
 
-pub use listing::{slot_list, slot_list_part};
+pub use listing::{slot_list, slot_list_number, slot_list_part, try_slot_list};
 pub use state::{build, update};

@@ -2,12 +2,12 @@
 ghost use Rattle.std.specs.Prelude.{◌≡◌};
 ghost use Rattle.input_data.specs.Lengths.{full_day};
 ghost use Rattle.schedule_state.specs.Answered.{list_answered};
-ghost use Rattle.schedule_state.specs.Calls.{slot_list_answer};
+ghost use Rattle.schedule_state.specs.Calls.{slot_list_answer, slot_list_lent, HandsBack};
 ghost use Rattle.schedule_updates.specs.Listing.{ListFound, Listed};
 
 use input_data::{Day, FixedLimits};
 use refusal::Refusal;
-use schedule_state::{SlotListPart, beside, check_state};
+use schedule_state::{SlotListAnswer, SlotListPart, beside, check_state};
 use slot_lists::SlotSums;
 
 // Checks 1 to 12. The sums of the state's schedule, where none applies.
@@ -56,7 +56,7 @@ pub fn slot_list_part(
 }
 
 // A slot's list: the used front of its part of the caller's buffer.
-pub fn slot_list<'a>(
+pub fn try_slot_list<'a>(
     day: &[u8],
     state: &[u8],
     lists: &'a [u8],
@@ -66,4 +66,20 @@ pub fn slot_list<'a>(
 {
     let part = slot_list_part(day, state, lists, slot)?;
     Ok(&lists[part.start..part.start + part.length])
+}
+
+// The same without a refusal: where the call is refused, the empty front of the buffer.
+pub fn slot_list<'a>(day: &[u8], state: &[u8], lists: &'a [u8], slot: usize) -> &'a [u8]
+    ensures { HandsBack full_day day.now state.now slot lists.entry result }
+{
+    let answer = SlotListAnswer::from(slot_list_part(day, state, lists, slot));
+    &lists[answer.start..answer.start + answer.length]
+}
+
+// The number that goes with it.
+#[tactic(auto, using(crate::specs::Numbers::list_number_lem))]
+pub fn slot_list_number(day: &[u8], state: &[u8], lists: &[u8], slot: usize) -> u32
+    ensures { result ≡ slot_list_lent full_day day.now state.now slot lists.now }
+{
+    SlotListAnswer::from(slot_list_part(day, state, lists, slot)).number
 }

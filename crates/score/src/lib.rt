@@ -1,9 +1,9 @@
 // score.rs: scores, their order, and the best of a list.
 #![tactic(auto)]
 
-ghost use Rattle.std.specs.Prelude.{◌≡◌, true, ◌+◌, ◌*◌, ◌<◌, ◌≤◌, ◌-◌, length};
-ghost use Rattle.std.specs.Float.{nan, binary32};
-ghost use Rattle.std.specs.Float.Ieee.{to_bits};
+ghost use Rattle.std.specs.Prelude.{◌≡◌, true, false, ◌||◌, ◌+◌, ◌*◌, ◌<◌, ◌≤◌, ◌-◌, length};
+ghost use Rattle.std.specs.Float.{nan, binary32, total_cmp};
+ghost use Rattle.std.specs.Float.Ieee.{to_bits, is_nan};
 ghost use Rattle.score.specs.Order.{infinite_twice, finite_score, finite_order, score_order, is_less};
 ghost use Rattle.score.specs.Answered.{best_answered};
 ghost use Rattle.score.specs.Best.{best_to};
@@ -40,6 +40,14 @@ pub fn bits(x: f32) -> u32
     if x.is_nan() { 0x7fc0_0000 } else { x.to_bits() }
 }
 
+// Two numbers, of which neither is NaN, by totalOrder.
+fn compare_numbers(x: f32, y: f32) -> Ordering
+    requires { (is_nan x ≡ false) × (is_nan y ≡ false) }
+    ensures { result ≡ total_cmp x y }
+{
+    x.total_cmp(&y)
+}
+
 impl Score {
     // The score of anything without a feasible plan.
     pub fn infinite() -> Score
@@ -57,16 +65,26 @@ impl Score {
         self.minor.is_finite() & (self.major.is_finite() | self.major.is_nan())
     }
 
+    // Whether a major is NaN, be it the other's.
+    fn has_nan_beside(self, other: Score) -> bool
+        ensures { result ≡ (is_nan self.major || is_nan other.major) }
+    {
+        self.major.is_nan() | other.major.is_nan()
+    }
+
     // Two finite scores: majors first, and minors alone where a major is NaN.
     fn cmp_finite(self, other: Score) -> Ordering
         requires { (finite_score self ≡ true) × (finite_score other ≡ true) }
         ensures { result ≡ finite_order self other }
     {
-        let minor = self.minor.total_cmp(&other.minor);
-        if self.major.is_nan() | other.major.is_nan() {
-            return minor;
+        if self.has_nan_beside(other) {
+            return compare_numbers(self.minor, other.minor);
         }
-        self.major.total_cmp(&other.major).then(minor)
+        match compare_numbers(self.major, other.major) {
+            Ordering::Less => Ordering::Less,
+            Ordering::Greater => Ordering::Greater,
+            Ordering::Equal => compare_numbers(self.minor, other.minor),
+        }
     }
 
     // No Ord: a NaN as a major leaves the minors to decide, so that three scores may be less than one another in a circle.

@@ -1,5 +1,5 @@
 -- What accepted input satisfies, and the numbers and answers as the code comes to them. Assumes nothing.
-use Rattle.std.specs.Prelude.{ℕ, Float, ◌+◌, ◌*◌, ◌<◌, ◌≤◌, ◌≡◌, Bool, true, not, ◌&&◌, ◌||◌, List, ◌≢◌, eqb, leb, length, Result, Ok, Err, IfOk, refl}
+use Rattle.std.specs.Prelude.{ℕ, Float, ◌+◌, ◌*◌, ◌<◌, ◌≤◌, ◌≡◌, Bool, true, not, ◌&&◌, ◌||◌, List, ◌≢◌, eqb, leb, ltb, length, Result, Ok, Err, IfOk, refl}
 use Rattle.std.proofs.Common.{sym, ◌∙◌, mul-le-mul, arith}
 use Rattle.std.proofs.Math.Path.{ap}
 use Rattle.std.proofs.Math.Bool.{false, or-false, or_comm}
@@ -12,7 +12,7 @@ use Rattle.counting.specs.Tests.{or_split, none_each}
 use Rattle.input_data.specs.Accepted.{Accepted, accepted, past, first_zero}
 use Rattle.input_data.specs.Bytes.{IsDay, day_of, wider, lent_number}
 use Rattle.input_data.specs.BytesLaws.{lent_short, lent_number_lem, lent_is}
-use Rattle.input_data.specs.Checks.{first_of, day_number, has_bad_preferences, above_at}
+use Rattle.input_data.specs.Checks.{first_of, too_many, day_number, has_bad_preferences, above_at}
 use Rattle.input_data.specs.Lengths.{Within, plan_length, preferences_length, powers_length}
 use Rattle.input_data.specs.Read.{day_read}
 use Rattle.input_data.specs.ReadLaws.{read_ok, read_err}
@@ -155,6 +155,20 @@ parts_weighed l d sch plan preferences powers w e =
     }
 
 -- ---- numbers
+
+-- a day that is not too large can be multiplied
+pub cells_most : (l : Limits) (d : InputData) → Within l → too_many l d.choosers d.choices d.slots ≡ false → d.choosers * d.choices ≤ 2048
+cells_most l d w e =
+    let m : ((ltb l.choosers d.choosers || ltb l.choices d.choices) ≡ false) × (ltb l.slots d.slots ≡ false) = or_split e in
+    let n : (ltb l.choosers d.choosers ≡ false) × (ltb l.choices d.choices ≡ false) = or_split m.0 in
+    let a : d.choosers ≤ 64 = omega (arith, w.choosers, ltb-false l.choosers d.choosers n.0) in
+    let b : d.choices ≤ 32 = omega (arith, w.choices, ltb-false l.choices d.choices n.1) in
+    mul-le-mul a b
+
+-- .. and one that is too large is refused by 1, whatever stands beside it
+pub many_number : (l : Limits) (d : InputData) (s : Parts) (preferences : List ℕ) (powers : ℕ) → too_many l d.choosers d.choices d.slots ≡ true → 1 ≡ solution_handed l d s preferences powers
+unfolding day_number first_of
+many_number l d s preferences powers e = rw e refl
 
 -- the number of a solution is that of the parts that it has
 module _ (l : Limits) (d : InputData) (sch plan preferences : List ℕ) (powers : ℕ) where

@@ -8,7 +8,7 @@ ghost use Rattle.scoring.specs.Handed.{beside_scoring, solution_handed, parts_sc
 use crate::reading::{read_parts, read_schedule};
 use crate::solution::Solution;
 use day_checks::{bad_preferences, check_day};
-use input_data::{Beside, Day, FixedLimits, NOTHING};
+use input_data::{Beside, Day, FixedLimits, NOTHING, too_many};
 use plan_score::Scoring;
 use refusal::Refusal;
 use score::Score;
@@ -27,7 +27,7 @@ fn beside_scoring(day: &Day, by: &Scoring) -> Beside
 }
 
 // The score of a solution, once all that it has has passed the tests of the call. What has no plan scores infinite twice.
-#[tactic(auto, using(crate::specs::Laws::invalid_number, crate::specs::Laws::scheduling_number, crate::specs::Laws::complete_number, crate::specs::Laws::parts_weighed))]
+#[tactic(auto, using(crate::specs::Laws::many_number, crate::specs::Laws::invalid_number, crate::specs::Laws::scheduling_number, crate::specs::Laws::complete_number, crate::specs::Laws::parts_weighed))]
 fn score_solution(
     fixed: FixedLimits,
     day: &Day,
@@ -37,6 +37,10 @@ fn score_solution(
     ensures number { outcome result ≡ solution_handed fixed.limits day.now (parts_of solution.now) by.now.preferences.now (length by.now.powers.now) }
     ensures score { IfOk result (λ s. s ≡ parts_scored day.now (parts_of solution.now) by.now.greedy by.now.preferences.now by.now.powers.now) }
 {
+    // Sizes come first: of a day that has too many no table is looked at, however long it is.
+    if too_many(fixed.limits, day.choosers(), day.choices(), day.slots()) {
+        return Err(Refusal::TooMany);
+    }
     let beside = beside_scoring(day, by);
     match solution {
         Solution::Invalid => check_day(fixed.limits, day, beside)?,

@@ -5,8 +5,7 @@ ghost use Rattle.constraint.specs.Kind.{kind_of, is_valid, is_scheduling, is_ass
 ghost use Rattle.constraint.specs.Negation.{negation_of, constraint_of};
 ghost use Rattle.seating.specs.Constraints.{negation_numbers, refused_numbers, negated_numbers};
 
-use crate::numbers;
-use constraint::ConstraintType;
+use constraint::{ConstraintType, numbers};
 use refusal::Refusal;
 
 #[repr(C)]

@@ -4,7 +4,6 @@
 pub mod assignments;
 pub mod constraints;
 pub mod models;
-mod numbers;
 pub mod scores;
 pub mod searches;
 pub mod states;

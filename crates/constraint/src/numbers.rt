@@ -7,7 +7,7 @@ ghost use Rattle.constraint.specs.Negation.{negated_kind};
 ghost use Rattle.constraint.specs.Numbers.{is_target, is_operator, has_operator, has_extra, negated_extra};
 
 // The number of a kind's negation.
-#[tactic(auto, unfolding(constraint::specs::Kind::kind_of))]
+#[tactic(auto, unfolding(crate::specs::Kind::kind_of))]
 pub fn negated_kind(kind: u32) -> u32
     ensures { result ≡ kind_number (negated_kind (kind_of kind)) }
 {
@@ -55,7 +55,7 @@ pub fn has_extra(case: u32, operand: i32) -> bool
 }
 
 // The number of an operator's negation; 0 for a number that is no operator.
-#[tactic(auto, unfolding(constraint::specs::Cases::operator_of, counting::specs::Ints::eq_z))]
+#[tactic(auto, unfolding(crate::specs::Cases::operator_of, counting::specs::Ints::eq_z))]
 pub fn negated_operator(number: i32) -> i32
     ensures { result ≡ extra_operand (negated_extra (operator_of number)) }
 {
