@@ -42,6 +42,7 @@ use Rattle.schedule_state.specs.Numbers.{err_is, lent_rest, state_long, state_ac
 use Rattle.schedule_state.specs.State.{inconsistent, blocked_at, state_of}
 use Rattle.schedule_state.specs.declared.AssignmentScheduleState.{AssignmentScheduleState}
 use Rattle.schedule_state.specs.declared.listing.SlotListPart.{SlotListPart}
+use Rattle.schedule_state.specs.declared.listing.SlotListAnswer.{SlotListAnswer}
 use Rattle.schedule_updates.specs.Carrying.{build_tested, update_tested, StateCarried}
 use Rattle.schedule_updates.specs.Listing.{list_beside, list_tested, ListFound, Listed}
 
@@ -259,3 +260,6 @@ module _ (l : Limits) (day st : List ℕ) (slot : ℕ) (bytes : List ℕ) where
         (λ e t. let a = list_accepted e in
         rw t (omega (arith, part_in a.ready slot a.slot, a.ready.day.choices, count_le (day_of day).choices (in_slot (entry_at (kept_of (day_of day) (state_in st).schedule)) slot))))
         (λ e t. rw t (omega arith))
+
+    pub part_inside : {p : SlotListAnswer} → p ≡ slot_list_answer l day st slot bytes → p.start + p.length ≤ length bytes
+    part_inside e = rw e list_inside

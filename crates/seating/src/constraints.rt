@@ -1,11 +1,11 @@
 // The entries over constraint.rs.
-ghost use Rattle.std.specs.Prelude.{◌≡◌, ◌≤◌, cond, pos};
+ghost use Rattle.std.specs.Prelude.{◌≡◌, cond, pos};
 ghost use Rattle.refusal.specs.Number.{number};
-ghost use Rattle.constraint.specs.Kind.{kind_of, kind_number, is_valid, is_scheduling, is_assignment};
-ghost use Rattle.constraint.specs.Negation.{negated_kind, negation_of, constraint_of};
+ghost use Rattle.constraint.specs.Kind.{kind_of, is_valid, is_scheduling, is_assignment};
+ghost use Rattle.constraint.specs.Negation.{negation_of, constraint_of};
 ghost use Rattle.seating.specs.Constraints.{negation_numbers, refused_numbers, negated_numbers};
 
-use constraint::{CONSTRAINT_TYPE_DISCRIMINATION_LIMIT, ConstraintType, numbers};
+use constraint::{ConstraintType, numbers};
 use refusal::Refusal;
 
 #[repr(C)]
@@ -39,32 +39,6 @@ fn keep<T: Copy>(test: bool, n: T, zero: T) -> T
     ensures { result ≡ cond test n zero }
 {
     if test { n } else { zero }
-}
-
-// The number of an assignment kind's negation. It stands apart, so that the compiler makes a table of each half of
-// the kinds: of one match on both it makes jumps, which take half as long again.
-#[tactic(auto, unfolding(constraint::specs::Kind::kind_of))]
-fn negated_assignment(kind: u32) -> u32
-    requires { 65536 ≤ kind }
-    ensures { result ≡ kind_number (negated_kind (kind_of kind)) }
-{
-    match kind {
-        65537 => 65538,
-        65538 => 65537,
-        65540 => 65541,
-        65541 => 65540,
-        _ => 0,
-    }
-}
-
-// The number of a kind's negation, half by half.
-fn negated_kind(kind: u32) -> u32
-    ensures { result ≡ kind_number (negated_kind (kind_of kind)) }
-{
-    if kind < CONSTRAINT_TYPE_DISCRIMINATION_LIMIT {
-        return numbers::negated_kind(kind);
-    }
-    negated_assignment(kind)
 }
 
 // A negation: the kind and the extra are new, and left and target are kept.
@@ -110,7 +84,7 @@ pub extern "C" fn cendravoka_negation(
     }
     let there = numbers::has_extra(extra_case, extra);
     negated_with(
-        negated_kind(kind),
+        numbers::negated_kind(kind),
         left,
         target_case,
         target,

@@ -1,7 +1,7 @@
-use Rattle.std.proofs.Common.{◌+◌, ◌≤◌, length, ap, ◌∙◌, refl, arith, rules}
+use Rattle.std.proofs.Common.{ap, ◌∙◌, refl, arith, rules}
 use Rattle.input_data.specs.Lengths.{full_day}
 use Rattle.input_data.specs.Numbers.{full_within}
-use Rattle.schedule_updates.specs.Numbers.{listed_refuses, list_number_lem, list_inside}
+use Rattle.schedule_updates.specs.Numbers.{listed_refuses, list_number_lem, part_inside}
 use Rattle.schedule_updates.proofs.listing.try_slot_list.Goals as goal
 
 pub returns-in_err-part : goal.returns-in_err-part
@@ -12,16 +12,12 @@ returns-in_err-part c =
 pub overflow_add-result : goal.overflow_add-result
 overflow_add-result c =
     let a = c.args in
-    let p = c.in_ok-part.part in
-    let i : p.start + p.length ≤ length a.lists.now = rw (ap (λ t. t.start + t.length) c.in_ok-part.ensures) (list_inside full_day a.day.now a.state.now a.slot a.lists.now full_within) in
-    omega arith
+    omega (arith, part_inside full_day a.day.now a.state.now a.slot a.lists.now full_within c.in_ok-part.ensures)
 
 pub slice_bounds-result-end : goal.slice_bounds-result-end
 slice_bounds-result-end c =
     let a = c.args in
-    let p = c.in_ok-part.part in
-    let i : p.start + p.length ≤ length a.lists.now = rw (ap (λ t. t.start + t.length) c.in_ok-part.ensures) (list_inside full_day a.day.now a.state.now a.slot a.lists.now full_within) in
-    omega arith
+    omega (arith, part_inside full_day a.day.now a.state.now a.slot a.lists.now full_within c.in_ok-part.ensures)
 
 pub returns : goal.returns
 returns c =
